@@ -1,0 +1,5 @@
+pub mod Answering
+pub mod Hex
+pub mod Lines
+pub mod Names
+pub mod Shown

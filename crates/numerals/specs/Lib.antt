@@ -1,0 +1,4 @@
+pub mod Plain
+pub mod Integer
+pub mod Double
+pub mod Theorems

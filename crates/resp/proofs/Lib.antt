@@ -1,0 +1,15 @@
+pub mod Outs
+pub mod Lines
+pub mod Lists
+pub mod Openings
+pub mod Heads
+pub mod Plainly
+pub mod Whole
+pub mod Firm
+pub mod Unique
+pub mod LineSteps
+pub mod Tolds
+pub mod Opens
+pub mod Walks
+pub mod Rights
+pub mod Cased

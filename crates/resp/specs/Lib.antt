@@ -1,0 +1,11 @@
+pub mod Limits
+pub mod Reply
+pub mod Grammar
+pub mod Out
+pub mod Reading
+pub mod Node
+pub mod Told
+pub mod Answer
+pub mod Theorems
+pub mod Examples
+pub mod Cases
