@@ -4,9 +4,10 @@ use mathlib.Core.Path.{_≡_}
 use mathlib.Core.Bool.{Bool, true, false, cond, _&&_, _||_}
 use mathlib.Core.List.{List, [], _∷_, _++_}
 use lib.Dec.{eqb}
-use lib.ListN.{length}
+use lib.ListN.{length, drop}
 use Rattle.std.specs.Text.{asciiDigit}
 use Rattle.std.specs.shelf.Text.{allDigits}
+use Rattle.numerals.specs.Front.{startsWith}
 
 -- nothing, a plus or a minus
 pub data Sign : List ℕ → Type 0 where
@@ -45,8 +46,7 @@ pub data BigNumber : List ℕ → Type 0 where
 
 -- what is left after a sign, if there is one
 abbrev pub afterSign : List ℕ → List ℕ
-afterSign [] = []
-afterSign (b ∷ c) = cond (eqb b 43 || eqb b 45) c (b ∷ c)
+afterSign c = cond (startsWith 43 c || startsWith 45 c) (drop 1 c) c
 
 -- what is left after all digits at the front
 abbrev pub afterDigits : List ℕ → List ℕ
@@ -66,12 +66,10 @@ abbrev pub digitsThen : (List ℕ → Bool) → List ℕ → Bool
 digitsThen rest c = startsWithDigit c && rest (afterDigits c)
 
 abbrev pub isExponent : List ℕ → Bool
-isExponent [] = true
-isExponent (b ∷ c) = (eqb b 101 || eqb b 69) && digitsThen isEmpty (afterSign c)
+isExponent c = isEmpty c || ((startsWith 101 c || startsWith 69 c) && digitsThen isEmpty (afterSign (drop 1 c)))
 
 abbrev pub isFraction : List ℕ → Bool
-isFraction [] = true
-isFraction (b ∷ c) = cond (eqb b 46) (digitsThen isExponent c) (isExponent (b ∷ c))
+isFraction c = cond (startsWith 46 c) (digitsThen isExponent (drop 1 c)) (isExponent c)
 
 abbrev pub isWord : List ℕ → Bool
 isWord [] = false

@@ -1,3 +1,4 @@
+pub mod Front
 pub mod Plain
 pub mod Integer
 pub mod Double

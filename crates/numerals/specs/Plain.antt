@@ -1,8 +1,9 @@
 -- Plain numbers: 0, or decimal digits that don't begin with 0.
 use Prim.Native.Nat.{ℕ, _+_, _-_, _*_, _^_, min}
 use mathlib.Core.Path.{_≡_}
-use mathlib.Core.Bool.{Bool, true, false, cond, _&&_}
+use mathlib.Core.Bool.{Bool, true, false, cond, not, _&&_}
 use mathlib.Core.List.{List, [], _∷_}
+use lib.Dec.{eqb}
 use Rattle.std.specs.Text.{within, asciiDigit}
 use Rattle.std.specs.shelf.Text.{allDigits}
 use Rattle.std.specs.declared.option.Option.{Option}
@@ -29,3 +30,15 @@ Plain n c = (plain c ≡ true) × (value c ≡ n)
 -- a plain number as 64 bits hold it: a larger one is the largest that they hold
 abbrev pub capped : List ℕ → Option ℕ
 capped c = cond (plain c) (Some (min (value c) (2 ^ 64 - 1))) None
+
+-- The same as the code tests it, from the left.
+
+-- there is a first byte, and it is no 0 before others
+abbrev pub plainFront : List ℕ → Bool
+plainFront [] = false
+plainFront (b ∷ []) = true
+plainFront (b ∷ d ∷ c) = not (eqb b 48)
+
+-- the number so far with one more digit, as 64 bits hold it
+abbrev pub pushed : ℕ → ℕ → Option ℕ
+pushed n b = cond (asciiDigit b) (Some (min (n * 10 + (b - 48)) (2 ^ 64 - 1))) None

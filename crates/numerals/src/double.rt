@@ -1,6 +1,8 @@
+use super::front::after_first;
+use super::front::starts_with;
 ghost use Prim.Native.Nat.{_≤_};
 ghost use Rattle.numerals.specs.Double.{BigNumber, Double, afterDigits, afterSign, digitsThen, isBigNumber, isDouble, isEmpty, isExponent, isFraction, isWord, startsWithDigit};
-ghost use lib.Dec.{T, ltb};
+ghost use lib.Dec.{T};
 ghost use lib.ListN.{drop, length};
 ghost use mathlib.Core.Path.{_≡_};
 
@@ -32,20 +34,18 @@ fn is_decimal(content: &[u8]) -> bool
     ensures { λ r. ⌜ r ≡ digitsThen isFraction (afterSign (now (content .entry))) ⌝ }
 {
     let digits = after_sign(content);
-    let n = digits_end(digits);
-    n > 0 && is_fraction(&digits[n..])
+    starts_with_digit(digits) && is_fraction(after_digits(digits))
 }
 
 /// Whether `content` can stand after the first digits of a double.
 fn is_fraction(content: &[u8]) -> bool
     ensures { λ r. ⌜ r ≡ isFraction (now (content .entry)) ⌝ }
 {
-    match content {
-        [b'.', digits @ ..] => {
-            let n = digits_end(digits);
-            n > 0 && is_exponent(&digits[n..])
-        }
-        _ => is_exponent(content),
+    if starts_with(content, b'.') {
+        let digits = after_first(content);
+        starts_with_digit(digits) && is_exponent(after_digits(digits))
+    } else {
+        is_exponent(content)
     }
 }
 
@@ -53,36 +53,50 @@ fn is_fraction(content: &[u8]) -> bool
 fn is_exponent(content: &[u8]) -> bool
     ensures { λ r. ⌜ r ≡ isExponent (now (content .entry)) ⌝ }
 {
-    match content {
-        [] => true,
-        [b'e' | b'E', rest @ ..] => is_digits(after_sign(rest)),
-        _ => false,
-    }
+    content.is_empty()
+        || (starts_with(content, b'e') || starts_with(content, b'E'))
+            && is_digits(after_sign(after_first(content)))
 }
 
 /// Whether `content` is one digit or more.
 fn is_digits(content: &[u8]) -> bool
     ensures { λ r. ⌜ r ≡ digitsThen isEmpty (now (content .entry)) ⌝ }
 {
-    let n = digits_end(content);
-    n > 0 && n == content.len()
+    starts_with_digit(content) && after_digits(content).is_empty()
 }
 
 /// What is left after a sign, if there is one.
 fn after_sign(content: &[u8]) -> &[u8]
     ensures { λ r. ⌜ now r ≡ afterSign (now (content .entry)) ⌝ }
 {
-    match content {
-        [b'+' | b'-', rest @ ..] => rest,
-        _ => content,
+    if starts_with(content, b'+') || starts_with(content, b'-') {
+        after_first(content)
+    } else {
+        content
     }
+}
+
+/// Whether a digit is the first of `content`.
+fn starts_with_digit(content: &[u8]) -> bool
+    ensures { λ r. ⌜ r ≡ startsWithDigit (now (content .entry)) ⌝ }
+{
+    match content {
+        [first, ..] => first.is_ascii_digit(),
+        [] => false,
+    }
+}
+
+/// What is left after all digits at the front.
+fn after_digits(content: &[u8]) -> &[u8]
+    ensures { λ r. ⌜ now r ≡ afterDigits (now (content .entry)) ⌝ }
+{
+    &content[digits_end(content)..]
 }
 
 /// How many digits there are at the front.
 fn digits_end(content: &[u8]) -> usize
     ensures within { λ r. ⌜ r ≤ length (now (content .entry)) ⌝ }
     ensures rest { λ r. ⌜ drop r (now (content .entry)) ≡ afterDigits (now (content .entry)) ⌝ }
-    ensures some { λ r. ⌜ ltb 0 r ≡ startsWithDigit (now (content .entry)) ⌝ }
 {
     for (i, b) in content.iter().enumerate() {
         if !b.is_ascii_digit() {

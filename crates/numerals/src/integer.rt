@@ -1,5 +1,7 @@
+use super::front::after_first;
+use super::front::starts_with;
 use super::plain::plain_number;
-ghost use Rattle.numerals.specs.Integer.{integer, minusOf, unsignedOf};
+ghost use Rattle.numerals.specs.Integer.{fitsMinus, integer, minusOf, unsignedOf};
 ghost use mathlib.Core.Path.{_≡_};
 
 /// The magnitude of `i64::MIN`.
@@ -10,9 +12,10 @@ const MIN_MAGNITUDE: u64 = 1 << 63;
 pub fn read_integer(content: &[u8]) -> Option<i64>
     ensures { λ r. ⌜ r ≡ integer (now (content .entry)) ⌝ }
 {
-    match content {
-        [b'-', digits @ ..] => minus(digits),
-        _ => unsigned(content),
+    if starts_with(content, b'-') {
+        minus(after_first(content))
+    } else {
+        unsigned(content)
     }
 }
 
@@ -31,7 +34,14 @@ fn minus(digits: &[u8]) -> Option<i64>
     ensures { λ r. ⌜ r ≡ minusOf (now (digits .entry)) ⌝ }
 {
     match plain_number(digits) {
-        Some(n) if n > 0 && n <= MIN_MAGNITUDE => Some(-((n - 1) as i64) - 1),
+        Some(n) if fits_minus(n) => Some(-((n - 1) as i64) - 1),
         _ => None,
     }
+}
+
+/// Whether a minus may stand before `n`.
+fn fits_minus(n: u64) -> bool
+    ensures { λ r. ⌜ r ≡ fitsMinus n ⌝ }
+{
+    n > 0 && n <= MIN_MAGNITUDE
 }

@@ -1,6 +1,7 @@
 //! Numbers as the lines of the Redis protocol write them: plain numbers, integers, doubles and big numbers.
 
 mod double;
+mod front;
 mod integer;
 mod laws;
 mod plain;

@@ -2,7 +2,7 @@ ghost use Rattle.resp.specs.Reading.{kindOf};
 ghost use mathlib.Core.Path.{_≡_};
 
 /// The fifteen kinds that a reply's first character tells apart.
-#[derive(Clone, Copy, PartialEq, Eq, Debug)]
+#[derive(Clone, Copy)]
 pub enum Kind {
     SimpleString,
     SimpleError,

@@ -13,7 +13,7 @@ pub struct Nullable {
 }
 
 /// An item up to its parts: how many replies stand right below it, whether the first of them has to be a string, and where they start.
-#[derive(Clone, Copy, PartialEq, Eq, Debug)]
+#[derive(Clone, Copy)]
 pub struct Opening {
     pub items: usize,
     pub named: bool,

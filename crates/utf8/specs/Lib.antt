@@ -1,3 +1,4 @@
 pub mod Table
 pub mod Scan
+pub mod Step
 pub mod Theorems

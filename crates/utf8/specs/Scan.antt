@@ -1,13 +1,17 @@
 -- The table read from left to right, a byte at a time.
 use Prim.Native.Nat.{ℕ, zero, suc, _-_, _<_}
 use mathlib.Core.Path.{_≡_}
-use mathlib.Core.Bool.{Bool, cond}
+use mathlib.Core.Bool.{cond}
 use mathlib.Core.List.{List, [], _∷_}
 use lib.Dec.{eqb, ltb}
 use lib.ListN.{length, drop}
 use Rattle.std.specs.Text.{within}
 use Rattle.std.specs.declared.option.Option.{Option}
 use Rattle.std.specs.declared.option.Option.the-variants.{Some, None}
+
+-- how many one-bits a byte begins with
+abbrev pub ones : ℕ → ℕ
+ones b = cond (ltb b 128) 0 (cond (ltb b 192) 1 (cond (ltb b 224) 2 (cond (ltb b 240) 3 (cond (ltb b 248) 4 (cond (ltb b 252) 5 (cond (ltb b 254) 6 (cond (ltb b 255) 7 8)))))))
 
 -- how many bytes a sequence has, by its lead byte; 0 for a byte that leads none
 abbrev pub count : ℕ → ℕ

