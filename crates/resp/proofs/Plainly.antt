@@ -7,7 +7,7 @@ use Rattle.resp.specs.declared.fault.WireReason.the-variants.{NotWhole, Limit,
 use Rattle.resp.specs.Out.{Out, ok, fault, andThen, mapOut}
 use Rattle.resp.specs.Reply.{Reply, One, Array, Set, Push, Map, Attribute, Replies, then, Pairs, pair-then, replies, pairs, isStringReply}
 use Rattle.resp.specs.Reading.{Head, a-leaf, of-array, of-set, of-push, of-map, of-attribute, Form, leaf, array, set, push, map, attribute, opening, items, pair, named, parts, form}
-use Rattle.resp.specs.Node.{Node, OneAt, ArrayAt, SetAt, PushAt, MapAt, AttributeAt, nodes, nodePairs, erase, eraseAll, erasePairs, isStringNode, knit, ended, reading}
+use Rattle.resp.specs.Node.{Node, OneAt, ArrayAt, SetAt, PushAt, MapAt, AttributeAt, PairAt, nodes, nodePairs, erase, eraseAll, erasePairs, isStringNode, knit, ended, reading}
 
 abbrev pub weave : Form Reply → Reply
 weave (leaf l) = One l
@@ -53,13 +53,13 @@ square : {A B C D : Type 0} (f : B → D) (g : A → B) (f' : C → D) (g' : A �
 square f g f' g' (ok a rest) e = ap (λ c. ok c rest) (e a)
 square f g f' g' (fault k at) e = refl
 
-items-natural : {R S : Type 0} (g : R → S) (f : List ℕ → Out R) (n : ℕ) (bs : List ℕ) → items (λ l. mapOut g (f l)) n bs ≡ mapOut (each g) (items f n bs)
+pub items-natural : {R S : Type 0} (g : R → S) (f : List ℕ → Out R) (n : ℕ) (bs : List ℕ) → items (λ l. mapOut g (f l)) n bs ≡ mapOut (each g) (items f n bs)
 items-natural g f zero bs = refl
 items-natural g f (suc n) bs =
     then-map g (f bs) (each g) _ _ (λ a more.
     ap (mapOut (λ l. g a ∷ l)) (items-natural g f n more) ∙ square (λ l. g a ∷ l) (each g) (each g) (λ l. a ∷ l) (items f n more) (λ _. refl))
 
-pair-natural : {R S : Type 0} (g : R → S) (f : List ℕ → Out R) (bs : List ℕ) → pair (λ l. mapOut g (f l)) bs ≡ mapOut (both g) (pair f bs)
+pub pair-natural : {R S : Type 0} (g : R → S) (f : List ℕ → Out R) (bs : List ℕ) → pair (λ l. mapOut g (f l)) bs ≡ mapOut (both g) (pair f bs)
 pair-natural g f bs = then-map g (f bs) (both g) _ _ (λ a more. square (λ b. (g a, b)) g (both g) (λ b. (a, b)) (f more) (λ _. refl))
 
 named-natural : {R S : Type 0} (g : R → S) (f : List ℕ → Out R) (p : R → Bool) (q : S → Bool) → ((r : R) → q (g r) ≡ p r) → (n : ℕ) (bs : List ℕ)
@@ -99,6 +99,7 @@ string-erase (SetAt p e ns) = refl
 string-erase (PushAt p e ns) = refl
 string-erase (MapAt p e ps) = refl
 string-erase (AttributeAt p e ps n) = refl
+string-erase (PairAt p e k v) = refl
 
 erase-nodes : (ns : List Node) → eraseAll (nodes ns) ≡ replies (each erase ns)
 erase-nodes [] = refl

@@ -8,6 +8,7 @@ use Rattle.resp.specs.Out.{Out, ok, fault}
 use Rattle.resp.specs.Reply.{Leaf, Reply, One, Array, Set, Push, Map, Attribute, Replies, no-more, then, Pairs, no-pair, pair-then, isString}
 use Rattle.resp.specs.Reading.{Form, leaf, array, set, push, map, attribute, form}
 
+-- The last is no reply of the wire: one pair of a map, taken by itself, which counts as a map of that pair alone.
 mutual
   pub data Node : Type 0 where
     OneAt : ℕ → ℕ → Leaf → Node
@@ -16,6 +17,7 @@ mutual
     PushAt : ℕ → ℕ → Nodes → Node
     MapAt : ℕ → ℕ → NodePairs → Node
     AttributeAt : ℕ → ℕ → NodePairs → Node → Node
+    PairAt : ℕ → ℕ → Node → Node → Node
 
   pub data Nodes : Type 0 where
     no-node : Nodes
@@ -42,6 +44,7 @@ abbrev mutual
   erase (PushAt p e ns) = Push (eraseAll ns)
   erase (MapAt p e ps) = Map (erasePairs ps)
   erase (AttributeAt p e ps n) = Attribute (erasePairs ps) (erase n)
+  erase (PairAt p e k v) = Map (pair-then (erase k) (erase v) no-pair)
 
   pub eraseAll : Nodes → Replies
   eraseAll no-node = no-more
@@ -58,6 +61,7 @@ isStringNode (SetAt p e ns) = false
 isStringNode (PushAt p e ns) = false
 isStringNode (MapAt p e ps) = false
 isStringNode (AttributeAt p e ps n) = false
+isStringNode (PairAt p e k v) = false
 
 -- one level that begins at p and ends before e
 abbrev pub knit : ℕ → ℕ → Form Node → Node

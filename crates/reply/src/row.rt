@@ -1,0 +1,70 @@
+use crate::ends::view_end;
+use crate::view::Items;
+use crate::view::Reply;
+ghost use mathlib.Core.List.{_∷_};
+ghost use mathlib.Core.Path.{_≡_};
+ghost use lib.ListN.{length};
+ghost use Prim.Native.Nat.{_+_, _-_, _<_};
+ghost use Rattle.reply.specs.View.{firstOf, nilNode, nodeOf, nodesOf};
+
+/// A nil that is no part of any bytes handed in.
+pub(crate) fn nil<'a>() -> Reply<'a>
+    ensures { λ r. ⌜ nodeOf r ≡ nilNode ⌝ }
+{
+    Reply {
+        bytes: b"_\r\n",
+        at: 0,
+        pair: false,
+    }
+}
+
+impl<'a> Items<'a> {
+    /// How many are left.
+    pub fn len(self) -> usize
+        ensures left { λ r. ⌜ r ≡ self .entry .left ⌝ }
+        ensures count { λ r. ⌜ r ≡ length (nodesOf (self .entry)) ⌝ }
+    {
+        self.left
+    }
+
+    /// The first of them; a nil where none is left.
+    fn first(self) -> Reply<'a>
+        ensures { λ r. ⌜ nodeOf r ≡ firstOf (self .entry) ⌝ }
+    {
+        if self.left == 0 {
+            return nil();
+        }
+        Reply {
+            bytes: self.bytes,
+            at: self.at,
+            pair: self.pairs,
+        }
+    }
+
+    /// Those after the first; none where none is left.
+    fn rest(self) -> Items<'a>
+        ensures left { λ r. ⌜ r .left ≡ self .entry .left - 1 ⌝ }
+        ensures items { λ r. ⌜ (0 < self .entry .left → nodesOf (self .entry) ≡ firstOf (self .entry) ∷ nodesOf r) ⌝ }
+    {
+        if self.left == 0 {
+            return self;
+        }
+        let end = view_end(self.bytes, self.at, self.pairs);
+        Items {
+            bytes: self.bytes,
+            at: end,
+            left: self.left - 1,
+            pairs: self.pairs,
+        }
+    }
+
+    /// The first, which is then passed by; a nil where none is left.
+    pub fn next(&mut self) -> Reply<'a>
+        ensures left { λ r. ⌜ now (self .exit) .left ≡ now (self .entry) .left - 1 ⌝ }
+        ensures items { λ r. ⌜ (0 < now (self .entry) .left → nodesOf (now (self .entry)) ≡ nodeOf r ∷ nodesOf (now (self .exit))) ⌝ }
+    {
+        let reply = self.first();
+        *self = self.rest();
+        reply
+    }
+}
