@@ -4,3 +4,4 @@ pub mod Views
 pub mod Opening
 pub mod PartSteps
 pub mod LeafParts
+pub mod Sayings

@@ -4,3 +4,4 @@ pub mod View
 pub mod Opened
 pub mod Checks
 pub mod Parted
+pub mod Says

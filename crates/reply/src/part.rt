@@ -5,11 +5,12 @@ use resp::Case;
 ghost use mathlib.Core.Bool.{false, true};
 ghost use mathlib.Core.Path.{_≡_};
 ghost use Prim.Native.Nat.{_+_, _≤_};
-ghost use lib.ListN.{drop, length};
+ghost use lib.ListN.{drop, length, take};
 ghost use Rattle.resp.specs.declared.case.Case.the-variants.{Int};
 ghost use Rattle.resp.specs.Cases.{caseOf};
 ghost use Rattle.resp.specs.Node.{erase};
 ghost use Rattle.reply.specs.Parted.{afterLf, integerIn, partOf, textStart, textual};
+ghost use Rattle.reply.specs.Says.{Says};
 ghost use Rattle.reply.specs.Tree.{nodeAt, wholly};
 ghost use Rattle.reply.specs.View.{nodeOf};
 
@@ -82,7 +83,9 @@ fn leaf_integer(bytes: &[u8], at: usize) -> Option<i64>
 impl<'a> Reply<'a> {
     /// Where the text of a leaf stands; of an integer its line; of what has no text no bytes at its place.
     pub fn text_part(self) -> Part
-        ensures { λ r. ⌜ r ≡ partOf (nodeOf (self .entry)) ⌝ }
+        ensures part { λ r. ⌜ r ≡ partOf (nodeOf (self .entry)) ⌝ }
+        ensures says { λ r. ⌜ Says (nodeOf (self .entry)) (take (r .len) (drop (r .start) (now (self .entry .bytes)))) ⌝ }
+        ensures inside { λ r. ⌜ r .start + r .len ≤ length (now (self .entry .bytes)) ⌝ }
     {
         if has_text(self.case()) {
             return leaf_part(self.bytes, self.at);

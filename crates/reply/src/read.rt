@@ -27,7 +27,8 @@ impl<'a> Reply<'a> {
 
     /// The key of a pair; of another view the view itself.
     pub fn key(self) -> Reply<'a>
-        ensures { λ r. ⌜ nodeOf r ≡ keyOf (nodeOf (self .entry)) ⌝ }
+        ensures tree { λ r. ⌜ nodeOf r ≡ keyOf (nodeOf (self .entry)) ⌝ }
+        ensures bytes { λ r. ⌜ r .bytes ≡ self .entry .bytes ⌝ }
     {
         Reply {
             bytes: self.bytes,
@@ -38,7 +39,8 @@ impl<'a> Reply<'a> {
 
     /// The value of a pair; of another view the view itself.
     pub fn value(self) -> Reply<'a>
-        ensures { λ r. ⌜ nodeOf r ≡ valueOf (nodeOf (self .entry)) ⌝ }
+        ensures tree { λ r. ⌜ nodeOf r ≡ valueOf (nodeOf (self .entry)) ⌝ }
+        ensures bytes { λ r. ⌜ r .bytes ≡ self .entry .bytes ⌝ }
     {
         if !self.pair {
             return self;
@@ -53,7 +55,8 @@ impl<'a> Reply<'a> {
 
     /// What stands right below the reply: the items of an array, a set or a push, the pairs of a map or an attribute; of a pair itself alone.
     pub fn items(self) -> Items<'a>
-        ensures { λ r. ⌜ nodesOf r ≡ partsOf (nodeOf (self .entry)) ⌝ }
+        ensures trees { λ r. ⌜ nodesOf r ≡ partsOf (nodeOf (self .entry)) ⌝ }
+        ensures bytes { λ r. ⌜ r .bytes ≡ self .entry .bytes ⌝ }
     {
         if self.pair {
             return Items {
@@ -74,7 +77,8 @@ impl<'a> Reply<'a> {
 
     /// One attribute replaced by its data; another view as it is.
     pub fn unwrapped(self) -> Reply<'a>
-        ensures { λ r. ⌜ nodeOf r ≡ unwrapped (nodeOf (self .entry)) ⌝ }
+        ensures tree { λ r. ⌜ nodeOf r ≡ unwrapped (nodeOf (self .entry)) ⌝ }
+        ensures bytes { λ r. ⌜ r .bytes ≡ self .entry .bytes ⌝ }
     {
         if self.pair || !is_attribute(self.bytes, self.at) {
             return self;

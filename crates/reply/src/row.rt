@@ -29,7 +29,9 @@ impl<'a> Items<'a> {
 
     /// The first of them; a nil where none is left.
     fn first(self) -> Reply<'a>
-        ensures { λ r. ⌜ nodeOf r ≡ firstOf (self .entry) ⌝ }
+        ensures tree { λ r. ⌜ nodeOf r ≡ firstOf (self .entry) ⌝ }
+        ensures bytes { λ r. ⌜ (0 < self .entry .left → r .bytes ≡ self .entry .bytes) ⌝ }
+        ensures none { λ r. ⌜ (self .entry .left ≡ 0 → nodeOf r ≡ nilNode) ⌝ }
     {
         if self.left == 0 {
             return nil();
@@ -45,6 +47,7 @@ impl<'a> Items<'a> {
     fn rest(self) -> Items<'a>
         ensures left { λ r. ⌜ r .left ≡ self .entry .left - 1 ⌝ }
         ensures items { λ r. ⌜ (0 < self .entry .left → nodesOf (self .entry) ≡ firstOf (self .entry) ∷ nodesOf r) ⌝ }
+        ensures bytes { λ r. ⌜ r .bytes ≡ self .entry .bytes ⌝ }
     {
         if self.left == 0 {
             return self;
@@ -62,6 +65,9 @@ impl<'a> Items<'a> {
     pub fn next(&mut self) -> Reply<'a>
         ensures left { λ r. ⌜ now (self .exit) .left ≡ now (self .entry) .left - 1 ⌝ }
         ensures items { λ r. ⌜ (0 < now (self .entry) .left → nodesOf (now (self .entry)) ≡ nodeOf r ∷ nodesOf (now (self .exit))) ⌝ }
+        ensures none { λ r. ⌜ (now (self .entry) .left ≡ 0 → nodeOf r ≡ nilNode) ⌝ }
+        ensures bytes { λ r. ⌜ (0 < now (self .entry) .left → r .bytes ≡ now (self .entry) .bytes) ⌝ }
+        ensures stays { λ r. ⌜ now (self .exit) .bytes ≡ now (self .entry) .bytes ⌝ }
     {
         let reply = self.first();
         *self = self.rest();

@@ -11,7 +11,11 @@ use Rattle.reply.proofs.view.Items.first.Needs as need
 pub returns-then-self-eq0 : need.returns-then-self-eq0
 unfolding firstOf
 returns-then-self-eq0 c =
-    c .nil .ensures ∙ sym (ap (λ t. cond t nilNode (nodeAt (now (c .args .self .bytes)) (c .args .self .pairs) (c .args .self .at))) (eq-eqb (c .args .self .left) 0 (omega arith)))
+    record {
+      tree = c .nil .ensures ∙ sym (ap (λ t. cond t nilNode (nodeAt (now (c .args .self .bytes)) (c .args .self .pairs) (c .args .self .at))) (eq-eqb (c .args .self .left) 0 (omega arith)));
+      bytes = λ some. absurd (omega arith);
+      none = λ _. c .nil .ensures;
+    }
 
 pub ghost-result : need.ghost-result
 unfolding wholly whollyRow
@@ -20,4 +24,9 @@ ghost-result c =
 
 pub returns : need.returns
 unfolding nodeOf firstOf
-returns c = sym (ap (λ t. cond t nilNode (nodeAt (now (c .args .self .bytes)) (c .args .self .pairs) (c .args .self .at))) (ne-eqb (c .args .self .left) 0 (omega arith)))
+returns c =
+    record {
+      tree = sym (ap (λ t. cond t nilNode (nodeAt (now (c .args .self .bytes)) (c .args .self .pairs) (c .args .self .at))) (ne-eqb (c .args .self .left) 0 (omega arith)));
+      bytes = λ _. refl;
+      none = λ z. absurd (omega arith);
+    }

@@ -26,6 +26,7 @@ returns c =
     let a = row-after bs (c .args .self .pairs) (c .args .self .at) (c .args .self .left) (c .view-end-end .result) (omega arith) (c .args .self .whole) (c .view-end-end .ensures w) in
     record {
       left = refl;
+      bytes = refl;
       items = λ some.
           a .items
           ∙ sym (ap (λ t. cond t nilNode (nodeAt bs (c .args .self .pairs) (c .args .self .at)) ∷ nodesAt bs (c .args .self .pairs) (c .view-end-end .result) (c .args .self .left - 1)) (ne-eqb (c .args .self .left) 0 (omega arith)));

@@ -1,5 +1,5 @@
 use denote.Ref.{now}
-use mathlib.Core.Path.{ap, _∙_}
+use mathlib.Core.Path.{refl, ap, _∙_}
 use Rattle.reply.specs.Parts.{partsOf}
 use Rattle.reply.specs.View.{nodeOf, nodesOf}
 use Rattle.reply.specs.Tree.{wholly, whollyRow}
@@ -12,7 +12,7 @@ ghost-result c = (pair-row (now (c .args .self .bytes)) (c .args .self .pair) (c
 
 pub returns-then-self : need.returns-then-self
 unfolding nodeOf nodesOf wholly
-returns-then-self c = pair-row (now (c .args .self .bytes)) (c .args .self .pair) (c .args .self .at) (c .if-self .taken) (c .args .self .whole) .1
+returns-then-self c = record { trees = pair-row (now (c .args .self .bytes)) (c .args .self .pair) (c .args .self .at) (c .if-self .taken) (c .args .self .whole) .1; bytes = refl }
 
 pub ghost-result-2 : need.ghost-result-2
 ghost-result-2 c =
@@ -25,4 +25,4 @@ unfolding nodeOf nodesOf
 returns c =
     let bs = now (c .args .self .bytes) in
     let one = single bs (c .args .self .pair) (c .args .self .at) (c .if-self .left) (c .args .self .whole) in
-    c .open-row-at .ensures (one .0) .parts ∙ ap partsOf (one .1)
+    record { trees = c .open-row-at .ensures (one .0) .parts ∙ ap partsOf (one .1); bytes = refl }

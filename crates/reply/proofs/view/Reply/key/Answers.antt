@@ -1,4 +1,5 @@
 use denote.Ref.{now}
+use mathlib.Core.Path.{refl}
 use Rattle.reply.specs.View.{nodeOf}
 use Rattle.reply.specs.Tree.{wholly}
 use Rattle.reply.proofs.Rows.{first-read}
@@ -11,4 +12,4 @@ ghost-result c = (first-read (now (c .args .self .bytes)) (c .args .self .pair) 
 
 pub returns : need.returns
 unfolding nodeOf wholly
-returns c = key-is (now (c .args .self .bytes)) (c .args .self .pair) (c .args .self .at) (c .args .self .inside) (c .args .self .whole)
+returns c = record { tree = key-is (now (c .args .self .bytes)) (c .args .self .pair) (c .args .self .at) (c .args .self .inside) (c .args .self .whole); bytes = refl }

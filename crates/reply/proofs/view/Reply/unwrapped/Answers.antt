@@ -1,6 +1,6 @@
 use denote.Ref.{now}
 use Prim.Native.Nat.{ℕ}
-use mathlib.Core.Path.{_≡_, ap, sym, _∙_}
+use mathlib.Core.Path.{_≡_, refl, ap, sym, _∙_}
 use mathlib.Core.Bool.{Bool, true}
 use mathlib.Core.List.{List}
 use Rattle.reply.specs.Parts.{unwrapped}
@@ -18,12 +18,15 @@ pub returns-then-self : need.returns-then-self
 unfolding nodeOf
 returns-then-self c =
     let bs = now (c .args .self .bytes) in
-    elim (c .then-self .came) [
-      | then-self·by·then-self w ↦ bare bs (c .args .self .pair) (c .args .self .at) (w .if-self .taken) (c .args .self .whole)
-      | then-self·by·else-self·then-not-is-attribute w ↦
-          let one = single bs (c .args .self .pair) (c .args .self .at) (w .if-self .left) (c .args .self .whole) in
-          sym (one .1) ∙ w .is-attribute .ensures (c .args .self .inside) (one .0) .other (w .if-not-is-attribute .taken) ∙ ap unwrapped (one .1)
-    ]
+    record {
+      tree = elim (c .then-self .came) [
+        | then-self·by·then-self w ↦ bare bs (c .args .self .pair) (c .args .self .at) (w .if-self .taken) (c .args .self .whole)
+        | then-self·by·else-self·then-not-is-attribute w ↦
+            let one = single bs (c .args .self .pair) (c .args .self .at) (w .if-self .left) (c .args .self .whole) in
+            sym (one .1) ∙ w .is-attribute .ensures (c .args .self .inside) (one .0) .other (w .if-not-is-attribute .taken) ∙ ap unwrapped (one .1)
+      ];
+      bytes = refl;
+    }
 
 pub ghost-result : need.ghost-result
 ghost-result c =
@@ -42,4 +45,4 @@ returns c =
     let row = c .open-row-at .ensures (one .0) in
     let end = c .row-end-end .ensures (row .inside) (row .whole) in
     let b = row .below (c .is-attribute .ensures (c .args .self .inside) (one .0) .is (c .if-not-is-attribute .left)) (c .row-end-end .result) end in
-    b .1 ∙ ap unwrapped (one .1)
+    record { tree = b .1 ∙ ap unwrapped (one .1); bytes = refl }
