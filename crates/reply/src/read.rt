@@ -9,6 +9,7 @@ use crate::view::Reply;
 use resp::Case;
 use resp::case_of;
 ghost use mathlib.Core.Path.{_≡_};
+ghost use lib.ListN.{length};
 ghost use Rattle.resp.specs.Cases.{caseOf};
 ghost use Rattle.resp.specs.Node.{erase};
 ghost use Rattle.reply.specs.Parts.{keyOf, partsOf, spotOf, unwrapped, valueOf};
@@ -30,9 +31,10 @@ impl<'a> Reply<'a> {
         ensures tree { λ r. ⌜ nodeOf r ≡ keyOf (nodeOf (self .entry)) ⌝ }
         ensures bytes { λ r. ⌜ r .bytes ≡ self .entry .bytes ⌝ }
     {
+        let key = self.at;
         Reply {
             bytes: self.bytes,
-            at: self.at,
+            at: key,
             pair: false,
         }
     }
@@ -104,5 +106,15 @@ impl<'a> Reply<'a> {
             Some(case) => case,
             None => Case::Nil,
         }
+    }
+}
+
+impl<'a> Items<'a> {
+    /// How many are left.
+    pub fn len(self) -> usize
+        ensures left { λ r. ⌜ r ≡ self .entry .left ⌝ }
+        ensures count { λ r. ⌜ r ≡ length (nodesOf (self .entry)) ⌝ }
+    {
+        self.left
     }
 }

@@ -3,7 +3,6 @@ use crate::view::Items;
 use crate::view::Reply;
 ghost use mathlib.Core.List.{_∷_};
 ghost use mathlib.Core.Path.{_≡_};
-ghost use lib.ListN.{length};
 ghost use Prim.Native.Nat.{_+_, _-_, _<_};
 ghost use Rattle.reply.specs.View.{firstOf, nilNode, nodeOf, nodesOf};
 
@@ -19,14 +18,6 @@ pub(crate) fn nil<'a>() -> Reply<'a>
 }
 
 impl<'a> Items<'a> {
-    /// How many are left.
-    pub fn len(self) -> usize
-        ensures left { λ r. ⌜ r ≡ self .entry .left ⌝ }
-        ensures count { λ r. ⌜ r ≡ length (nodesOf (self .entry)) ⌝ }
-    {
-        self.left
-    }
-
     /// The first of them; a nil where none is left.
     fn first(self) -> Reply<'a>
         ensures tree { λ r. ⌜ nodeOf r ≡ firstOf (self .entry) ⌝ }
