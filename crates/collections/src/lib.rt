@@ -1,5 +1,7 @@
 //! Lists, sets and maps: their rows, read from replies in place.
 
+#![tactic(auto)]
+
 mod collection;
 mod cursor;
 mod entry;

@@ -3,6 +3,8 @@
 //! A question is the name of a shape, a tab, and bytes in hex. The answer is `ok` with what was
 //! read, `no` with the fault and its place, or `bad` where the line is no question.
 
+#![tactic(auto)]
+
 ghost use Rattle.std.specs.Prelude.{◌≡◌, IfOk};
 ghost use Rattle.resp.specs.Answer.{answer};
 ghost use Rattle.compare.specs.Answering.{Answers, wire_answer};

@@ -1,5 +1,7 @@
 //! Numbers as text says them to Rust's parsers: whole numbers, and decimal numbers that are floats rounded once.
 
+#![tactic(auto)]
+
 mod decimal;
 mod digits;
 mod double;

@@ -1,5 +1,7 @@
 //! Element kinds: how a reply reads as a value, singly, in a list and from a byte string.
 
+#![tactic(auto)]
+
 mod bounds;
 mod each;
 mod fault;

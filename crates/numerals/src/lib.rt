@@ -1,5 +1,7 @@
 //! Numbers as the lines of the Redis protocol write them: plain numbers, integers, doubles and big numbers.
 
+#![tactic(auto)]
+
 mod double;
 mod front;
 mod integer;

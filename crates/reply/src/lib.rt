@@ -1,5 +1,7 @@
 //! Views of whole replies, in place: what begins where, and what stands right below it.
 
+#![tactic(auto)]
+
 mod alone;
 mod ends;
 mod find;

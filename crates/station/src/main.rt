@@ -1,5 +1,7 @@
 //! Lists the replies in a recording of what a Redis server sent, read from standard input.
 
+#![tactic(auto)]
+
 mod listing;
 mod report;
 

@@ -17,7 +17,7 @@ pub record Reads (text : List ℕ) (start due lo hi i : ℕ) : Type 0 where
   pub inside : 0 < due → start < length text
 
 abbrev pub Answer : List ℕ → Option ℕ → Type 0
-Answer text r = record { located : Located text (ill_formed text) r; nat_tests : Tells text r }
+Answer text r = record { located : Located text (ill_formed text) r; tells : Tells text r }
 
 at : (text : List ℕ) (i : ℕ) → i < length text → ill_formed text ≡ Some (drop i text) → Answer text (Some i)
 at text i h e = record { located = rw e (h, refl); tells = locates text (drop i text) e }

@@ -1,5 +1,7 @@
 //! UTF-8: where a text stops being well formed, by table 3-7 of the Unicode Standard.
 
+#![tactic(auto)]
+
 ghost use Rattle.std.specs.Prelude.{◌≡◌, ◌<◌};
 ghost use Rattle.utf8.specs.Scan.{Located, count, greatest, ill_formed, least, ones};
 ghost use Rattle.utf8.specs.Step.{at_end, beginning, following, initial, passing, step_of};

@@ -1,5 +1,7 @@
 //! Kinds that are written: what is read back is what was written.
 
+#![tactic(auto)]
+
 mod back;
 mod kind;
 mod plain;

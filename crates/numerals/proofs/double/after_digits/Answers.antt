@@ -3,4 +3,4 @@ use Rattle.std.proofs.lemmas.List.{take_rest}
 use Rattle.numerals.proofs.double.after_digits.Goals as goal
 
 pub returns : goal.returns
-returns c = take_rest c.args.content.now c.digits-end.result ∙ c.digits-end.ensures.rest
+returns c = take_rest c.args.content.now c.digits_end.result ∙ c.digits_end.ensures.rest

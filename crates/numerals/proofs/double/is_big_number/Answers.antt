@@ -5,5 +5,5 @@ use Rattle.numerals.proofs.double.is_big_number.Goals as goal
 
 pub returns : goal.returns
 returns c =
-    let same = c.is-digits.ensures ∙ ap (digits_then is_empty) c.after-sign.ensures in
+    let same = c.is_digits.ensures ∙ ap (digits_then is_empty) c.after_sign.ensures in
     record { same = same; rule = rule_from _ _ same (big_numbers_agree c.args.content.now) }
