@@ -7,4 +7,4 @@ use Rattle.resp.proofs.body.body_end.Goals as goal
 pub returns : goal.returns
 returns c =
     let bs = c.args.bytes.now in
-    subst (Told (Lines bs c.args.from) bs (body c.args.n (drop c.args.from bs))) (sym c.close-body.ensures) (body_told bs c.args.from c.args.n (omega arith))
+    subst (Told (Lines bs c.args.from) bs (body c.args.n (drop c.args.from bs))) (sym c.close_body.ensures) (body_told bs c.args.from c.args.n (omega arith))

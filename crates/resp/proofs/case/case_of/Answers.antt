@@ -5,5 +5,5 @@ use Rattle.resp.proofs.case.case_of.Goals as goal
 
 pub returns : goal.returns
 returns c =
-    let is = c.first-case.ensures in
+    let is = c.first_case.ensures in
     record { first = is; tree = subst (Cased c.args.reply.now) (sym is) (cased c.args.reply.now) }

@@ -6,4 +6,4 @@ use Rattle.resp.proofs.case.first_case.Goals as goal
 pub returns-in-Some : goal.returns-in-Some
 returns-in-Some c =
     let bs = c.args.reply.now in
-    c.case-by.ensures ∙ ap (case_by (Some c.in-Some.kind)) (take_rest bs 1) ∙ ap (λ k. case_by k (drop 1 bs)) c.in-Some.ensures ∙ sym (at_drop_more case_in bs 0 0 (omega arith))
+    c.case_by.ensures ∙ ap (case_by (Some c.in-Some.kind)) (take_rest bs 1) ∙ ap (λ k. case_by k (drop 1 bs)) c.in-Some.ensures ∙ sym (at_drop_more case_in bs 0 0 (omega arith))

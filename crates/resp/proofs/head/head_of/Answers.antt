@@ -9,27 +9,27 @@ use Rattle.resp.proofs.head.head_of.Goals as goal
 pub returns-in-SimpleString : goal.returns-in-SimpleString
 returns-in-SimpleString c =
     ⊎_elim
-    (λ is. told_kind c.args.bytes.now c.args.kind kind.SimpleString _ _ c.leaf.result c.text-line.result is c.leaf.ensures
-    (told_leaf simple_leaf c.args.bytes.now _ c.text-line.result c.text-line.ensures))
-    (λ is. told_kind c.args.bytes.now c.args.kind kind.SimpleError _ _ c.leaf.result c.text-line.result is c.leaf.ensures
-    (told_leaf ServerError c.args.bytes.now _ c.text-line.result c.text-line.ensures))
+    (λ is. told_kind c.args.bytes.now c.args.kind kind.SimpleString _ _ c.leaf.result c.text_line.result is c.leaf.ensures
+    (told_leaf simple_leaf c.args.bytes.now _ c.text_line.result c.text_line.ensures))
+    (λ is. told_kind c.args.bytes.now c.args.kind kind.SimpleError _ _ c.leaf.result c.text_line.result is c.leaf.ensures
+    (told_leaf ServerError c.args.bytes.now _ c.text_line.result c.text_line.ensures))
     c.in-SimpleString.is
 
 pub returns-in-BulkString : goal.returns-in-BulkString
 returns-in-BulkString c =
-    told_kind c.args.bytes.now c.args.kind kind.BulkString _ _ c.leaf-in-BulkString.result c.bulk-string.result c.in-BulkString.is c.leaf-in-BulkString.ensures
-    (told_leaf (λ l. l) c.args.bytes.now _ c.bulk-string.result c.bulk-string.ensures)
+    told_kind c.args.bytes.now c.args.kind kind.BulkString _ _ c.leaf-in-BulkString.result c.bulk_string.result c.in-BulkString.is c.leaf-in-BulkString.ensures
+    (told_leaf (λ l. l) c.args.bytes.now _ c.bulk_string.result c.bulk_string.ensures)
 
 pub returns-in-BulkError : goal.returns-in-BulkError
 returns-in-BulkError c =
-    told_kind c.args.bytes.now c.args.kind kind.BulkError _ _ c.leaf-in-BulkError.result c.bulk-error.result c.in-BulkError.is c.leaf-in-BulkError.ensures
-    (told_leaf ServerError c.args.bytes.now _ c.bulk-error.result c.bulk-error.ensures)
+    told_kind c.args.bytes.now c.args.kind kind.BulkError _ _ c.leaf-in-BulkError.result c.bulk_error.result c.in-BulkError.is c.leaf-in-BulkError.ensures
+    (told_leaf ServerError c.args.bytes.now _ c.bulk_error.result c.bulk_error.ensures)
 
 pub returns-in-VerbatimString : goal.returns-in-VerbatimString
 returns-in-VerbatimString c =
-    told_kind c.args.bytes.now c.args.kind kind.VerbatimString _ _ c.leaf-in-VerbatimString.result c.verbatim-string.result c.in-VerbatimString.is c.leaf-in-VerbatimString.ensures
-    (told_leaf (λ d. VerbatimString (take 3 d) (drop 4 d)) c.args.bytes.now _ c.verbatim-string.result c.verbatim-string.ensures)
+    told_kind c.args.bytes.now c.args.kind kind.VerbatimString _ _ c.leaf-in-VerbatimString.result c.verbatim_string.result c.in-VerbatimString.is c.leaf-in-VerbatimString.ensures
+    (told_leaf (λ d. VerbatimString (take 3 d) (drop 4 d)) c.args.bytes.now _ c.verbatim_string.result c.verbatim_string.ensures)
 
 pub returns-in-Integer : goal.returns-in-Integer
 returns-in-Integer c =
-    told_lined c.args.bytes.now c.args.kind _ _ c.leaf-in-Integer.result c.content-line.result c.leaf-in-Integer.ensures c.content-line.ensures c.in-Integer.is
+    told_lined c.args.bytes.now c.args.kind _ _ c.leaf-in-Integer.result c.content_line.result c.leaf-in-Integer.ensures c.content_line.ensures c.in-Integer.is

@@ -5,8 +5,8 @@ use Rattle.resp.proofs.leaf.content_line.Goals as goal
 
 pub returns-then-fits : goal.returns-then-fits
 returns-then-fits c =
-    line_fits (leaf_of c.args.kind) c.args.bytes.now c.args.at c.in-ok-end.end c.in-ok-end.ensures (sym c.if-fits.ensures)
+    line_fits (leaf_of c.args.kind) c.args.bytes.now c.args.at c.in_ok-end.end c.in_ok-end.ensures (sym c.if-fits.ensures)
 
 pub returns-else-fits : goal.returns-else-fits
 returns-else-fits c =
-    line_misfits (leaf_of c.args.kind) c.args.bytes.now c.args.at c.in-ok-end.end c.in-ok-end.ensures (omega arith) (sym c.if-fits.ensures)
+    line_misfits (leaf_of c.args.kind) c.args.bytes.now c.args.at c.in_ok-end.end c.in_ok-end.ensures (omega arith) (sym c.if-fits.ensures)

@@ -14,8 +14,8 @@ returns-in-13 c = told_cr_other c.args.bytes.now c.args.at c.loop-n.n c.loop-n.i
 pub returns-in-10 : goal.returns-in-10
 returns-in-10 c = told_lf c.args.bytes.now c.args.at c.loop-n.n c.loop-n.invariant.2 (omega arith) c.in-10.is
 
-pub returns-then-n-eq-LINE-MOST : goal.returns-then-n-eq-LINE-MOST
-returns-then-n-eq-LINE-MOST c = told_long c.args.bytes.now c.args.at c.loop-n.n c.loop-n.invariant.2 (omega arith) (omega arith) (omega arith) (omega arith)
+pub returns-then-n-eq-LINE_MOST : goal.returns-then-n-eq-LINE_MOST
+returns-then-n-eq-LINE_MOST c = told_long c.args.bytes.now c.args.at c.loop-n.n c.loop-n.invariant.2 (omega arith) (omega arith) (omega arith) (omega arith)
 
 pub loop-n-preserved : goal.loop-n-preserved
 loop-n-preserved c = (omega arith, omega arith, left_more c.args.bytes.now c.args.at c.loop-n.n c.loop-n.invariant.2 (omega arith) (omega arith) (omega arith) (omega arith))

@@ -9,4 +9,4 @@ use Rattle.resp.proofs.walking.open_item.Goals as goal
 pub returns : goal.returns
 returns c =
     let bs = c.args.bytes.now in
-    told_opened bs (opening bs) c.open-front.result (subst (λ o. Told (Opens bs) bs o c.open-front.result) (opening_from_lem deepest bs 0) c.open-front.ensures)
+    told_opened bs (opening bs) c.open_front.result (subst (λ o. Told (Opens bs) bs o c.open_front.result) (opening_from_lem deepest bs 0) c.open_front.ensures)
