@@ -7,5 +7,5 @@ pub returns : goal.returns
 unfolding wholly
 returns c h =
     let bs = c.args.bytes.now in
-    let a = c.reply-end-value.ensures (first_read bs true c.args.at h) in
-    pair_ended bs c.args.at c.reply-end-value.result c.reply-end.result a (c.reply-end.ensures (second_read bs c.args.at c.reply-end-value.result h a))
+    let a = c.reply_end-value.ensures (first_read bs true c.args.at h) in
+    pair_ended bs c.args.at c.reply_end-value.result c.reply_end.result a (c.reply_end.ensures (second_read bs c.args.at c.reply_end-value.result h a))

@@ -12,8 +12,8 @@ loop-left-init c h = pass_start c.args.bytes.now c.args.at h
 pub returns-then-end-bytes : goal.returns-then-end-bytes
 returns-then-end-bytes c h = absurd (pass_never c.args.bytes.now c.args.at c.loop-left.end c.loop-left.left (c.loop-left.invariant h) (omega arith) (omega arith))
 
-pub overflow-add-end : goal.overflow-add-end
-overflow-add-end c =
+pub overflow_add-end : goal.overflow_add-end
+overflow_add-end c =
     let bs = c.args.bytes.now in
     let l = drop c.loop-left.end bs in
     let len : c.pass-len.result.len ≡ (passed_of l).len = ap (λ r. r.len) (c.pass-len.ensures ∙ ap passed_of (take_rest bs c.loop-left.end)) in
@@ -31,7 +31,7 @@ pub loop-left-preserved : goal.loop-left-preserved
 loop-left-preserved c h =
     let bs = c.args.bytes.now in
     pass_more bs c.args.at c.loop-left.end c.loop-left.left _ _ c.pass-len.result (c.loop-left.invariant h) (omega arith) (c.pass-len.ensures ∙ ap passed_of (take_rest bs c.loop-left.end)) refl
-    c.saturating-add-left.ensures (omega arith)
+    c.saturating_add-left.ensures (omega arith)
 
 pub returns : goal.returns
 returns c h = pass_done c.args.bytes.now c.args.at c.loop-left.end (subst (Passing c.args.bytes.now c.args.at c.loop-left.end) (omega arith) (c.loop-left.invariant h))

@@ -12,8 +12,8 @@ unfolding wholly
 loop-item-preserved c le h =
     let bs = c.args.bytes.now in
     let l = c.loop-item.invariant le h in
-    left_more bs c.args.pairs c.args.at c.args.left c.loop-item.-item c.loop-item.end c.view-end-end.result (omega arith) l
-    (c.view-end-end.ensures (left_first bs c.args.pairs c.args.at c.args.left c.loop-item.-item c.loop-item.end (omega arith) l))
+    left_more bs c.args.pairs c.args.at c.args.left c.loop-item._item c.loop-item.end c.view_end-end.result (omega arith) l
+    (c.view_end-end.ensures (left_first bs c.args.pairs c.args.at c.args.left c.loop-item._item c.loop-item.end (omega arith) l))
 
 pub returns : goal.returns
-returns c le h = left_done c.args.bytes.now c.args.pairs c.args.at c.args.left c.loop-item.-item c.loop-item.end (omega arith) (c.loop-item.invariant le h)
+returns c le h = left_done c.args.bytes.now c.args.pairs c.args.at c.args.left c.loop-item._item c.loop-item.end (omega arith) (c.loop-item.invariant le h)

@@ -11,4 +11,4 @@ unfolding wholly
 returns c le h =
     let bs = c.args.bytes.now in
     let p = c.args.at in
-    subst (Attributed bs p) (sym c.is-attribute-case.ensures) (attributed bs p le h c.case-of.result (subst (λ l. Cased l c.case-of.result) (take_rest bs p) c.case-of.ensures.tree))
+    subst (Attributed bs p) (sym c.is_attribute_case.ensures) (attributed bs p le h c.case_of.result (subst (λ l. Cased l c.case_of.result) (take_rest bs p) c.case_of.ensures.tree))

@@ -25,5 +25,5 @@ returns-in-Some c h =
     let bs = c.args.bytes.now in
     let p = c.args.at in
     let w = row_passed bs p (omega arith) h c.pass-len.result c.in-Some.case (c.pass-len.ensures ∙ ap passed_of (take_rest bs p)) (subst (λ l. Cased l (Some c.in-Some.case)) (take_rest bs p) c.in-Some.ensures.tree) in
-    let sum : c.saturating-add.result ≡ p + c.pass-len.result.len = omega (arith, w.0, c.saturating-add.ensures) in
-    subst (Opened bs p) (sym (c.row-from.ensures ∙ ap (λ e. row_from c.in-Some.case e c.pass-len.result.items) sum)) w.1
+    let sum : c.saturating_add.result ≡ p + c.pass-len.result.len = omega (arith, w.0, c.saturating_add.ensures) in
+    subst (Opened bs p) (sym (c.row_from.ensures ∙ ap (λ e. row_from c.in-Some.case e c.pass-len.result.items) sum)) w.1

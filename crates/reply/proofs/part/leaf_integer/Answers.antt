@@ -7,7 +7,7 @@ use Rattle.reply.proofs.part.leaf_integer.Goals.{then-end-bytes-via-then-end-byt
 pub returns-then-end-bytes : goal.returns-then-end-bytes
 unfolding wholly
 returns-then-end-bytes c le h is =
-    let i = int_part c.args.bytes.now c.args.at c.reply-end-end.result le h is (c.reply-end-end.ensures h) in
+    let i = int_part c.args.bytes.now c.args.at c.reply_end-end.result le h is (c.reply_end-end.ensures h) in
     let long = i.long in
     let inside = i.inside in
     elim c.then-end-bytes.branch [
@@ -18,4 +18,4 @@ returns-then-end-bytes c le h is =
 
 pub returns : goal.returns
 unfolding wholly
-returns c le h is = c.read-integer.ensures ∙ (int_part c.args.bytes.now c.args.at c.reply-end-end.result le h is (c.reply-end-end.ensures h)).value
+returns c le h is = c.read_integer.ensures ∙ (int_part c.args.bytes.now c.args.at c.reply_end-end.result le h is (c.reply_end-end.ensures h)).value

@@ -10,6 +10,6 @@ unfolding wholly
 returns c le h is =
     let bs = c.args.bytes.now in
     let p = c.args.at in
-    leaf_part_is bs p le h is c.reply-end-end.result c.text-start.result c.saturating-add-start.result c.saturating-sub-2.result
-    (c.reply-end-end.ensures h) (omega arith) (c.text-start.ensures ∙ ap text_start (take_rest bs p)) c.saturating-add-start.ensures
-    (c.saturating-sub-2.ensures ∙ ap (λ z. z - c.saturating-add-start.result) c.saturating-sub.ensures)
+    leaf_part_is bs p le h is c.reply_end-end.result c.text_start.result c.saturating_add-start.result c.saturating_sub-2.result
+    (c.reply_end-end.ensures h) (omega arith) (c.text_start.ensures ∙ ap text_start (take_rest bs p)) c.saturating_add-start.ensures
+    (c.saturating_sub-2.ensures ∙ ap (λ z. z - c.saturating_add-start.result) c.saturating_sub.ensures)

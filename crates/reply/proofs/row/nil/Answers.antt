@@ -3,9 +3,9 @@ use Rattle.reply.specs.View.{node_of}
 use Rattle.reply.specs.Tree.{wholly, node_at}
 use Rattle.reply.proofs.row.nil.Goals as goal
 
-pub invariant-of-result : goal.invariant-of-result
+pub invariant_of-result : goal.invariant_of-result
 unfolding wholly
-invariant-of-result c = (refl, (omega arith, tt))
+invariant_of-result c = record { whole = refl; inside = omega arith }
 
 pub returns : goal.returns
 unfolding node_of node_at

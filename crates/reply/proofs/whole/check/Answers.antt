@@ -6,11 +6,11 @@ use Rattle.reply.specs.View.{node_of}
 use Rattle.reply.proofs.Rows.{walk_ended, ok_read, node_is}
 use Rattle.reply.proofs.whole.check.Goals as goal
 
-pub invariant-of-reply : goal.invariant-of-reply
+pub invariant_of-reply : goal.invariant_of-reply
 unfolding wholly
-invariant-of-reply c =
+invariant_of-reply c =
     let w = walk_ended c.args.bytes.now 0 c.in-Ok.field-0 (omega arith) (sym c.in-Ok.ensures.answer) in
-    (ok_read _ w.tree _ w.reads, (omega arith, tt))
+    record { whole = ok_read _ w.tree _ w.reads; inside = omega arith }
 
 pub returns-in-Ok : goal.returns-in-Ok
 unfolding node_of

@@ -14,10 +14,10 @@ returns-then-self-eq0 c =
       none = λ _. c.nil.ensures;
     }
 
-pub invariant-of-result : goal.invariant-of-result
+pub invariant_of-result : goal.invariant_of-result
 unfolding wholly wholly_row
-invariant-of-result c =
-    (first_whole c.args.self.bytes.now c.args.self.pairs c.args.self.at c.args.self.left (omega arith) c.args.self.whole, (c.args.self.inside, tt))
+invariant_of-result c =
+    record { whole = first_whole c.args.self.bytes.now c.args.self.pairs c.args.self.at c.args.self.left (omega arith) c.args.self.whole; inside = c.args.self.inside }
 
 pub returns : goal.returns
 unfolding node_of first_of

@@ -4,9 +4,9 @@ use Rattle.reply.specs.Tree.{wholly, wholly_row}
 use Rattle.reply.proofs.SingleRows.{alone_row}
 use Rattle.reply.proofs.view.Reply.alone.Goals as goal
 
-pub invariant-of-result : goal.invariant-of-result
+pub invariant_of-result : goal.invariant_of-result
 unfolding wholly wholly_row
-invariant-of-result c = ((alone_row c.args.self.bytes.now c.args.self.pair c.args.self.at c.args.self.whole).0, (c.args.self.inside, tt))
+invariant_of-result c = record { whole = (alone_row c.args.self.bytes.now c.args.self.pair c.args.self.at c.args.self.whole).0; inside = c.args.self.inside }
 
 pub returns : goal.returns
 unfolding node_of nodes_of wholly

@@ -16,8 +16,8 @@ returns-in-VerbatimString c =
     let p = c.args.self.at in
     let is = sym c.in-VerbatimString.ensures in
     let one = single bs c.args.self.pair p (text_single bs c.args.self.pair p c.args.self.whole (ap textual is)) c.args.self.whole in
-    c.leaf-format.ensures c.args.self.inside one.0 (ap (λ n. case_of (erase n)) one.1 ∙ is) ∙ ap format_of one.1
+    c.leaf_format.ensures c.args.self.inside one.0 (ap (λ n. case_of (erase n)) one.1 ∙ is) ∙ ap format_of one.1
 
-pub returns-in-default : goal.returns-in-default
+pub returns-in_default : goal.returns-in_default
 unfolding node_of
-returns-in-default c = format_only (node_at c.args.self.bytes.now c.args.self.pair c.args.self.at) (λ e. c.in-default.not-VerbatimString (c.case.ensures ∙ e))
+returns-in_default c = format_only (node_at c.args.self.bytes.now c.args.self.pair c.args.self.at) (λ e. c.in_default.not-VerbatimString (c.case.ensures ∙ e))

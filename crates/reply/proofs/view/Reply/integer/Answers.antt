@@ -15,8 +15,8 @@ returns-in-Int c =
     let p = c.args.self.at in
     let is = sym c.in-Int.ensures in
     let one = single bs c.args.self.pair p (text_single bs c.args.self.pair p c.args.self.whole (ap textual is)) c.args.self.whole in
-    c.leaf-integer.ensures c.args.self.inside one.0 (ap (λ n. case_of (erase n)) one.1 ∙ is) ∙ ap integer_in one.1
+    c.leaf_integer.ensures c.args.self.inside one.0 (ap (λ n. case_of (erase n)) one.1 ∙ is) ∙ ap integer_in one.1
 
-pub returns-in-default : goal.returns-in-default
+pub returns-in_default : goal.returns-in_default
 unfolding node_of
-returns-in-default c = int_only (node_at c.args.self.bytes.now c.args.self.pair c.args.self.at) (λ e. c.in-default.not-Int (c.case.ensures ∙ e))
+returns-in_default c = int_only (node_at c.args.self.bytes.now c.args.self.pair c.args.self.at) (λ e. c.in_default.not-Int (c.case.ensures ∙ e))

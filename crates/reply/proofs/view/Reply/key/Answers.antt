@@ -5,9 +5,9 @@ use Rattle.reply.proofs.Rows.{first_read}
 use Rattle.reply.proofs.Views.{key_is}
 use Rattle.reply.proofs.view.Reply.key.Goals as goal
 
-pub invariant-of-result : goal.invariant-of-result
+pub invariant_of-result : goal.invariant_of-result
 unfolding wholly
-invariant-of-result c = (first_read c.args.self.bytes.now c.args.self.pair c.args.self.at c.args.self.whole, (c.args.self.inside, tt))
+invariant_of-result c = record { whole = first_read c.args.self.bytes.now c.args.self.pair c.args.self.at c.args.self.whole; inside = c.args.self.inside }
 
 pub returns : goal.returns
 unfolding node_of wholly

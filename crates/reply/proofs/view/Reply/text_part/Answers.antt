@@ -9,16 +9,16 @@ use Rattle.reply.proofs.LeafParts.{no_part, text_single, start_at}
 use Rattle.reply.proofs.Sayings.{part_says}
 use Rattle.reply.proofs.view.Reply.text_part.Goals as goal
 
-pub returns-then-has-text : goal.returns-then-has-text
+pub returns-then-has_text : goal.returns-then-has_text
 unfolding node_of wholly
-returns-then-has-text c =
+returns-then-has_text c =
     let bs = c.args.self.bytes.now in
     let p = c.args.self.at in
     let m = c.args.self.pair in
-    let text = ap textual (sym c.case.ensures) ∙ sym c.if-has-text.ensures in
+    let text = ap textual (sym c.case.ensures) ∙ sym c.if-has_text.ensures in
     let one = single bs m p (text_single bs m p c.args.self.whole text) c.args.self.whole in
-    let is = c.leaf-part.ensures c.args.self.inside one.0 (ap (λ n. textual (case_of (erase n))) one.1 ∙ text) ∙ ap part_of one.1 in
-    let says = part_says bs m p c.args.self.inside c.args.self.whole c.leaf-part.result is in
+    let is = c.leaf_part.ensures c.args.self.inside one.0 (ap (λ n. textual (case_of (erase n))) one.1 ∙ text) ∙ ap part_of one.1 in
+    let says = part_says bs m p c.args.self.inside c.args.self.whole c.leaf_part.result is in
     record { part = is; says = says.0; inside = says.1 }
 
 pub returns : goal.returns
@@ -28,6 +28,6 @@ returns c =
     let p = c.args.self.at in
     let m = c.args.self.pair in
     let is = no_part (node_at bs m p) p (start_at bs m p c.args.self.inside c.args.self.whole)
-    (ap textual (sym c.case.ensures) ∙ sym c.if-has-text.ensures) in
+    (ap textual (sym c.case.ensures) ∙ sym c.if-has_text.ensures) in
     let says = part_says bs m p c.args.self.inside c.args.self.whole (record { start = p; len = 0 }) is in
     record { part = is; says = says.0; inside = says.1 }
