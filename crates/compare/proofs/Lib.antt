@@ -1,3 +1,2 @@
 mod Answered
 mod Pairs
-mod Words

@@ -7,13 +7,13 @@ use Rattle.std.proofs.lemmas.Option.{MatchOption-at_none, MatchOption-at_some}
 use Rattle.compare.proofs.Pairs.{to_text, to_pair, one_more}
 use Rattle.compare.proofs.hex.decode.Goals as goal
 
-pub returns-in-err-byte : goal.returns-in-err-byte
-returns-in-err-byte c =
+pub returns-in_err-byte : goal.returns-in_err-byte
+returns-in_err-byte c =
     let i : ℕ = c.loop-pair.pair-index in
-    let row : List ℕ = get_or c.as-chunks.result.0.now i [] in
+    let row : List ℕ = get_or c.as_chunks.result.0.now i [] in
     let told : MatchOption c.byte.result ((b : ℕ) → SpellsAt row 0 b → ⊥) (λ b. SpellsAt row 0 b) = c.byte.ensures in
     let none : c.byte.result ≡ None = grind arith in
-    let p = err_from_is_err_and c.from-residual-in-err-byte.result c.from-residual-in-err-byte.ensures.1 in
+    let p = err_from_is_err_and c.from_residual-in_err-byte.result c.from_residual-in_err-byte.ensures.1 in
     let is : p.0 ≡ NotHex = grind arith in
     let even : length c.args.text.now % 2 ≡ 0 = search rules in
     let within : i < length c.args.text.now / 2 = search rules in
@@ -21,21 +21,21 @@ returns-in-err-byte c =
     let not-spelled : (b : ℕ) → SpellsAt row 0 b → ⊥ =
     MatchOption-at_none ((b : ℕ) → SpellsAt row 0 b → ⊥) (λ b. SpellsAt row 0 b) none told in
     let back : (b : ℕ) → SpellsAt c.args.text.now i b → SpellsAt row 0 b =
-    to_pair c.args.text.now c.as-chunks.result.0.now (length c.args.text.now / 2) i c.as-chunks.ensures.front within in
+    to_pair c.args.text.now c.as_chunks.result.0.now (length c.args.text.now / 2) i c.as_chunks.ensures.front within in
     rw (p.1, is) (even, (i, inside, λ b s. not-spelled b (back b s)))
 
 pub loop-pair-preserved : goal.loop-pair-preserved
 loop-pair-preserved c =
     let i : ℕ = c.loop-pair.pair-index in
-    let row : List ℕ = get_or c.as-chunks.result.0.now i [] in
+    let row : List ℕ = get_or c.as_chunks.result.0.now i [] in
     let told : MatchOption c.byte.result ((b : ℕ) → SpellsAt row 0 b → ⊥) (λ b. SpellsAt row 0 b) = c.byte.ensures in
-    let some : c.byte.result ≡ Some c.in-ok-byte.byte = grind arith in
+    let some : c.byte.result ≡ Some c.in_ok-byte.byte = grind arith in
     let within : i < length c.args.text.now / 2 = search rules in
-    one_more c.args.text.now (vec_items c.loop-pair.bytes) (vec_items c.push.new.self) i c.in-ok-byte.byte
-    c.in-ok-push.ensures.items c.loop-pair.invariant.0 c.loop-pair.invariant.1
-    (to_text c.args.text.now c.as-chunks.result.0.now (length c.args.text.now / 2) i c.as-chunks.ensures.front within
-    c.in-ok-byte.byte
-    (MatchOption-at_some ((b : ℕ) → SpellsAt row 0 b → ⊥) (λ b. SpellsAt row 0 b) c.in-ok-byte.byte some told))
+    one_more c.args.text.now (vec_items c.loop-pair.bytes) (vec_items c.push.new.self) i c.in_ok-byte.byte
+    c.in_ok-push.ensures.items c.loop-pair.invariant.0 c.loop-pair.invariant.1
+    (to_text c.args.text.now c.as_chunks.result.0.now (length c.args.text.now / 2) i c.as_chunks.ensures.front within
+    c.in_ok-byte.byte
+    (MatchOption-at_some ((b : ℕ) → SpellsAt row 0 b → ⊥) (λ b. SpellsAt row 0 b) c.in_ok-byte.byte some told))
 
 pub returns : goal.returns
 returns c =

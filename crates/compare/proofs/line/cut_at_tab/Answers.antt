@@ -4,4 +4,4 @@ use Rattle.std.proofs.lemmas.List.{take_rest}
 use Rattle.compare.proofs.line.cut_at_tab.Goals as goal
 
 pub returns : goal.returns
-returns c = (c.in-ok-tab.tab, c.in-ok-tab.ensures, grind arith, take_rest c.args.line.now (c.in-ok-tab.tab + 1))
+returns c = (c.in_ok-tab.tab, c.in_ok-tab.ensures, grind arith, take_rest c.args.line.now (c.in_ok-tab.tab + 1))
