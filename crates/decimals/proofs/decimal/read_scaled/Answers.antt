@@ -7,20 +7,20 @@ use Rattle.decimals.specs.Decimal.{power_in}
 use Rattle.decimals.proofs.DigitSteps.{add_both}
 use Rattle.decimals.proofs.ScaledSteps.{scaled_same, not_empty, clamped_small}
 use Rattle.decimals.proofs.decimal.read_scaled.Goals as goal
-use Rattle.decimals.proofs.decimal.read_scaled.Goals.{else-is-empty-via-then-is-empty+else-is-empty-2, else-is-empty-via-else-is-empty}
+use Rattle.decimals.proofs.decimal.read_scaled.Goals.{else-is_empty-via-then-is_empty+else-is_empty-2, else-is_empty-via-else-is_empty}
 
 pub returns-in-Some : goal.returns-in-Some
 returns-in-Some c =
     let w = c.args.whole.now in
     let f = c.args.fraction.now in
     let some : (is_empty w && is_empty f) ≡ false =
-    elim c.else-is-empty.branch [
-      | else-is-empty-via-then-is-empty+else-is-empty-2 x ↦ and_right _ _ (not_empty f (sym x.if-is-empty-2.ensures))
-      | else-is-empty-via-else-is-empty x ↦ and_left _ _ (not_empty w (sym x.if-is-empty.ensures))
+    elim c.else-is_empty.branch [
+      | else-is_empty-via-then-is_empty+else-is_empty-2 x ↦ and_right _ _ (not_empty f (sym x.if-is_empty-2.ensures))
+      | else-is_empty-via-else-is_empty x ↦ and_left _ _ (not_empty w (sym x.if-is_empty.ensures))
     ] in
     let short : length f < 2 ^ 63 = search rules in
     let q = to_z w128 (of_z w128 (to_z w128 (of_z w128 c.in-Some.power) -ℤ to_z w128 (length f))) in
     let small = clamped_small (power_in c.args.tail.now) c.in-Some.power c.in-Some.ensures in
     let is : q ≡ c.in-Some.power -ℤ pos (length f) = omega (arith, ints) in
-    scaled_same c.args.negative w f c.args.tail.now c.in-Some.power q c.add-digits-digits.result _ c.round-once.ensures some short
-    c.in-Some.ensures (add_both _ _ w f c.add-digits.ensures c.add-digits-digits.ensures) is
+    scaled_same c.args.negative w f c.args.tail.now c.in-Some.power q c.add_digits-digits.result _ c.round_once.ensures some short
+    c.in-Some.ensures (add_both _ _ w f c.add_digits.ensures c.add_digits-digits.ensures) is

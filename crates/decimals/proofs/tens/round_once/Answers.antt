@@ -8,12 +8,12 @@ pub returns-then-power-lt0 : goal.returns-then-power-lt0
 returns-then-power-lt0 c =
     let q = c.args.power in
     let t : lt_z q (pos 0) ≡ true = grind (arith, ints) in
-    let e : c.unsigned-abs-size.result ≡ nat_abs q = omega (arith, ints, c.unsigned-abs-size.ensures.value) in
-    once_quotient _ _ q _ _ _ (omega arith) (omega arith) t e c.signed-float-x.ensures c.power-of-ten-ten.ensures
+    let e : c.unsigned_abs-size.result ≡ nat_abs q = omega (arith, ints, c.unsigned_abs-size.ensures.value) in
+    once_quotient _ _ q _ _ _ (omega arith) (omega arith) t e c.signed_float-x.ensures c.power_of_ten-ten.ensures
 
 pub returns-else-power-lt0 : goal.returns-else-power-lt0
 returns-else-power-lt0 c =
     let q = c.args.power in
     let t : lt_z q (pos 0) ≡ false = grind (arith, ints) in
-    let e : c.unsigned-abs-size.result ≡ nat_abs q = omega (arith, ints, c.unsigned-abs-size.ensures.value) in
-    once_product _ _ q _ _ _ (omega arith) (omega arith) t e c.signed-float-x.ensures c.power-of-ten-ten.ensures
+    let e : c.unsigned_abs-size.result ≡ nat_abs q = omega (arith, ints, c.unsigned_abs-size.ensures.value) in
+    once_product _ _ q _ _ _ (omega arith) (omega arith) t e c.signed_float-x.ensures c.power_of_ten-ten.ensures

@@ -4,7 +4,7 @@ use Rattle.decimals.proofs.WholeSteps.{read_on, read_from, read_bad, read_more}
 use Rattle.decimals.proofs.whole.read_digits.Goals as goal
 
 pub loop-b-init : goal.loop-b-init
-loop-b-init c = read_from c.args.digits.now (sym c.if-is-empty.ensures)
+loop-b-init c = read_from c.args.digits.now (sym c.if-is_empty.ensures)
 
 pub loop-b-preserved : goal.loop-b-preserved
 loop-b-preserved c = c.loop-b.invariant ∙ read_more c.loop-b.value _ c.args.digits.now c.loop-b.b-index (omega arith) c.in-Some.ensures

@@ -6,4 +6,4 @@ pub returns : goal.returns
 returns c =
     let text = c.args.text.now in
     let signed = c.args.signed in
-    whole_capped_lem _ (is_minus signed text) _ (magnitude_in signed text) _ _ c.with-sign.ensures c.is-minus.ensures c.read-digits.ensures c.magnitude.ensures
+    whole_capped_lem _ (is_minus signed text) _ (magnitude_in signed text) _ _ c.with_sign.ensures c.is_minus.ensures c.read_digits.ensures c.magnitude.ensures

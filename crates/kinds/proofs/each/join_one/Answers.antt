@@ -6,6 +6,6 @@ use Rattle.kinds.proofs.each.join_one.Goals as goal
 pub returns : goal.returns
 returns g c =
     record {
-      value = c.read-next.ensures.value ∙ first_taken (g.K.FromRedisValue.one c.args.kind.now) (nodes_of c.args.items.now);
-      rest = c.read-next.ensures.rest;
+      value = c.read_next.ensures.value ∙ first_taken (g.K.FromRedisValue.one c.args.kind.now) (nodes_of c.args.items.now);
+      rest = c.read_next.ensures.rest;
     }

@@ -7,4 +7,4 @@ pub returns : goal.returns
 returns g c =
     let p = passed c.args.items.now c.next.new.self _ c.next.ensures.left c.next.ensures.items c.next.ensures.none in
     let one = g.K.FromRedisValue.one c.args.kind.now in
-    record { value = c.from-redis-value.ensures ∙ ap one p.first ∙ first_of one (nodes_of c.args.items.now); rest = p.others }
+    record { value = c.from_redis_value.ensures ∙ ap one p.first ∙ first_of one (nodes_of c.args.items.now); rest = p.others }

@@ -7,6 +7,6 @@ use Rattle.kinds.proofs.ints.bounded.Goals as goal
 pub returns : goal.returns
 returns c =
     record {
-      same = c.whole-number.ensures;
-      within = subst (Within c.args.bounds) (sym c.whole-number.ensures) (integer_within c.args.bounds (node_of c.args.reply));
+      same = c.whole_number.ensures;
+      within = subst (Within c.args.bounds) (sym c.whole_number.ensures) (integer_within c.args.bounds (node_of c.args.reply));
     }

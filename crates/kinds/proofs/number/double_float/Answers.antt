@@ -10,4 +10,4 @@ returns-in-Ok c = ap (float_or (spot_of (node_of c.args.reply)) Ok) c.in-Ok.ensu
 
 pub returns-in-Err : goal.returns-in-Err
 unfolding double_float
-returns-in-Err c = ap Err c.refuse-float.ensures ∙ ap (float_or (spot_of (node_of c.args.reply)) Ok) c.in-Err.ensures
+returns-in-Err c = ap Err c.refuse_float.ensures ∙ ap (float_or (spot_of (node_of c.args.reply)) Ok) c.in-Err.ensures

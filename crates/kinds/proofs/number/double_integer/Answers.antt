@@ -9,12 +9,12 @@ pub returns-in-Ok : goal.returns-in-Ok
 unfolding double_integer
 returns-in-Ok c =
     let p = spot_of (node_of c.args.reply) in
-    c.or-refuse.ensures
-    ∙ ap (or_refuse Range p) (c.in-range-number.ensures ∙ ap (between c.args.bounds) c.whole-of.ensures)
+    c.or_refuse.ensures
+    ∙ ap (or_refuse Range p) (c.in_range-number.ensures ∙ ap (between c.args.bounds) c.whole_of.ensures)
     ∙ ap (float_or p (float_integer p c.args.bounds)) c.in-Ok.ensures
 
 pub returns-in-Err : goal.returns-in-Err
 unfolding double_integer
 returns-in-Err c =
     let p = spot_of (node_of c.args.reply) in
-    ap Err c.refuse-float.ensures ∙ ap (float_or p (float_integer p c.args.bounds)) c.in-Err.ensures
+    ap Err c.refuse_float.ensures ∙ ap (float_or p (float_integer p c.args.bounds)) c.in-Err.ensures

@@ -10,4 +10,4 @@ pub returns : goal.returns
 unfolding text_integer
 returns c =
     let p = spot_of (node_of c.args.reply) in
-    c.or-refuse.ensures ∙ ap (or_refuse Text p) (c.in-range-number.ensures ∙ ap (between c.args.bounds) (c.read-whole.ensures ∙ ap (λ s. whole_capped s c.args.text.now) c.is-signed.ensures))
+    c.or_refuse.ensures ∙ ap (or_refuse Text p) (c.in_range-number.ensures ∙ ap (between c.args.bounds) (c.read_whole.ensures ∙ ap (λ s. whole_capped s c.args.text.now) c.is_signed.ensures))

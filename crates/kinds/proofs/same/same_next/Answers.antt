@@ -11,7 +11,7 @@ returns g c =
     let q = passed c.args.b.now c.next-2.new.self (node_of c.next-2.result) c.next-2.ensures.left c.next-2.ensures.items c.next-2.ensures.none in
     let alike = g.K.Same.alike c.args.kind.now in
     record {
-      same = c.is-same.ensures ∙ ap (λ n. alike n (node_of c.next-2.result)) p.first ∙ ap (alike (first_node (nodes_of c.args.a.now))) q.first;
+      same = c.is_same.ensures ∙ ap (λ n. alike n (node_of c.next-2.result)) p.first ∙ ap (alike (first_node (nodes_of c.args.a.now))) q.first;
       first = p.others;
       second = q.others;
     }

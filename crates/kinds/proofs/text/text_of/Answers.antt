@@ -6,7 +6,7 @@ use Rattle.kinds.proofs.text.text_of.Goals as goal
 
 pub returns : goal.returns
 returns c h =
-    let s = c.text-part-start.result.start in
-    let l = c.text-part-start.result.len in
+    let s = c.text_part-start.result.start in
+    let l = c.text_part-start.result.len in
     let e : l ≡ s + l - s = omega arith in
-    says_text (node_of c.args.reply) _ (subst (λ k. Says (node_of c.args.reply) (take k (drop s c.args.reply.bytes.now))) e c.text-part-start.ensures.says) h
+    says_text (node_of c.args.reply) _ (subst (λ k. Says (node_of c.args.reply) (take k (drop s c.args.reply.bytes.now))) e c.text_part-start.ensures.says) h

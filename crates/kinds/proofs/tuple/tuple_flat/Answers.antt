@@ -6,6 +6,6 @@ use Rattle.kinds.proofs.tuple.tuple_flat.Goals as goal
 
 pub returns : goal.returns
 returns g c =
-    let b = c.beside-first-beside.result in
+    let b = c.beside_first-beside.result in
     let none = none_left c.loop-rest.rest (omega arith) in
-    sym (ap (λ m. tuple_flat m (nodes_of c.args.items)) (sym c.beside-first-beside.ensures) ∙ c.loop-rest.invariant ∙ ap (tuple_flat b) none)
+    sym (ap (λ m. tuple_flat m (nodes_of c.args.items)) (sym c.beside_first-beside.ensures) ∙ c.loop-rest.invariant ∙ ap (tuple_flat b) none)
