@@ -2,6 +2,7 @@ pub mod TableSteps
 pub mod CutSteps
 pub mod ListSteps
 pub mod SetSteps
+pub mod EntrySteps
 pub mod MapSteps
 pub mod Firsts
 pub mod Merges

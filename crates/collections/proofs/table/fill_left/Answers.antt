@@ -20,4 +20,4 @@ loop-row-preserved g c room =
 pub returns : goal.returns
 returns g c room =
     let left = g.C.Collection.left c.args.shape.now in
-    laid_all (left c.args.cursor) (left c.loop-row.rest) c.args.table.now c.loop-row.table c.loop-row.i c.in-default.ensures.step (c.loop-row.invariant room)
+    laid_all (left c.args.cursor) (left c.loop-row.rest) c.args.table.now c.loop-row.table c.loop-row.i c.in_default.ensures.step (c.loop-row.invariant room)

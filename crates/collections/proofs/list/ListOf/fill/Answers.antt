@@ -11,11 +11,11 @@ returns g c =
     let joined = g.K.Rows.joined c.args.self.now.0 in
     let bytewise = g.K.Rows.bytewise c.args.self.now.0 in
     record {
-      filled = c.fill-table.ensures;
+      filled = c.fill_table.ensures;
       rows = λ count is.
           list_rows_lem one flat more joined bytewise (node_of c.args.reply) _
-          (table_rows (list_rows one flat more joined bytewise (node_of c.args.reply)) c.args.table.now c.fill-table.new.table c.fill-table.result count c.fill-table.ensures is);
+          (table_rows (list_rows one flat more joined bytewise (node_of c.args.reply)) c.args.table.now c.fill_table.new.table c.fill_table.result count c.fill_table.ensures is);
       none = λ array empty.
-          table_none (list_rows one flat more joined bytewise (node_of c.args.reply)) c.args.table.now c.fill-table.new.table c.fill-table.result c.fill-table.ensures
+          table_none (list_rows one flat more joined bytewise (node_of c.args.reply)) c.args.table.now c.fill_table.new.table c.fill_table.result c.fill_table.ensures
           (list_none one flat more joined bytewise (node_of c.args.reply) array empty);
     }

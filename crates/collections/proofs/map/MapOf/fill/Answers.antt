@@ -9,8 +9,8 @@ returns g c =
     let value = g.V.FromRedisValue.one c.args.self.now.1 in
     let alike = g.K.Same.alike c.args.self.now.0 in
     record {
-      filled = c.fill-table.ensures;
+      filled = c.fill_table.ensures;
       rows = λ count is.
           map_rows_lem key value alike (g.met.K.Same.equality c.args.self.now.0) (node_of c.args.reply) _
-          (table_rows (map_rows key value alike (node_of c.args.reply)) c.args.table.now c.fill-table.new.table c.fill-table.result count c.fill-table.ensures is);
+          (table_rows (map_rows key value alike (node_of c.args.reply)) c.args.table.now c.fill_table.new.table c.fill_table.result count c.fill_table.ensures is);
     }
