@@ -1,5 +1,5 @@
 -- How an answer is written.
-use Rattle.std.specs.Prelude.{ℕ, List, [], ◌∷◌, ◌++◌, codes, decimal}
+use Rattle.std.specs.Prelude.{ℕ, List, ◌∷◌, ◌++◌, codes, decimal}
 use Rattle.resp.specs.Answer.{number}
 use Rattle.compare.specs.declared.answer.Answer.{Answer}
 use Rattle.compare.specs.declared.answer.Answer.TheVariants.{Whole, Faulty, Bad}

@@ -1,5 +1,5 @@
 -- What the tests of a float tell of the whole number that it is.
-use Rattle.std.proofs.Common.{◌≡◌, ℕ, zero, suc, ◌+◌, ◌-◌, ◌*◌, ◌/◌, ◌%◌, ◌^◌, ◌<◌, ◌≤◌, Bool, true, false, cond, ◌&&◌, T, eqb, ltb, leb, ℤ, pos, negsuc, Some, None, sym, refl, ap, ◌∙◌, subst, div-lt_iff_lt-mul, div-add-mod', le-div_iff_mul-le, zero-mul, div-one, arith, ltb→lt, pow_pos}
+use Rattle.std.proofs.Common.{◌≡◌, ℕ, zero, suc, ◌+◌, ◌*◌, ◌/◌, ◌%◌, ◌^◌, ◌<◌, ◌≤◌, Bool, true, false, cond, ◌&&◌, T, eqb, ltb, leb, ℤ, pos, negsuc, Some, None, sym, refl, ap, ◌∙◌, subst, div-lt_iff_lt-mul, div-add-mod', le-div_iff_mul-le, zero-mul, div-one, arith, ltb→lt, pow_pos}
 use native.Mathlib.Nat.{zero-mod, zero-div}
 use lib.Ieee.{Float, nan, inf, fin, binary64, low, emax, up, down, lt, eq, neg, fits, of_bits, of_int, to_unsigned}
 use lib.Ieee.Fits.{up_pos, down_pos, and_l, and_r}

@@ -2,4 +2,3 @@ pub mod TextSteps
 pub mod RowSteps
 pub mod TupleSteps
 pub mod SameTexts
-pub mod Lives

@@ -1,19 +1,18 @@
 -- The first bytes of a whole reply tell its case.
-use Rattle.std.proofs.Common.{◌≡◌, ℕ, zero, suc, ◌-◌, Bool, true, false, cond, not, ◌&&◌, eqb, List, [], ◌∷◌, ◌++◌, length, Some, None, Option, sym, refl, ap, ◌∙◌, subst, append_assoc, arith}
-use Rattle.std.proofs.lemmas.Bool.{and_left, and_right, ne_eqb, eqb-true, eqb-false, false≢true, cases_Bool, not-false}
-use Rattle.numerals.specs.Plain.{plain}
+use Rattle.std.proofs.Common.{◌≡◌, ℕ, Bool, true, false, cond, not, ◌&&◌, eqb, List, [], ◌∷◌, ◌++◌, length, Some, sym, refl, ap, ◌∙◌, append_assoc}
+use Rattle.std.proofs.lemmas.Bool.{and_left, and_right, ne_eqb, eqb-true, false≢true}
 use Rattle.resp.specs.declared.case.Case.{Case}
 use Rattle.resp.specs.declared.case.Case.TheVariants as case
 use Rattle.resp.specs.Limits.{items_most}
-use Rattle.resp.specs.Out.{Out, ok, fault, and_then, map_out}
-use Rattle.resp.specs.Reply.{Leaf, Reply}
+use Rattle.resp.specs.Out.{Out, ok, map_out}
+use Rattle.resp.specs.Reply.{Leaf}
 use Rattle.resp.specs.Grammar as grammar
 use Rattle.resp.specs.Grammar.{header, Header, Clean, Line, Leafed, crlf}
 use Rattle.resp.specs.Reading.{opening, Head, a_leaf, of_array, of_set, of_push, of_map, of_attribute, Form, leaf, array, set, push, map, attribute, items, pair, named, parts, form}
-use Rattle.resp.specs.Node.{Node, erase, is_string_node, knit, ended, reading, offset}
+use Rattle.resp.specs.Node.{Node, erase, is_string_node, knit, reading, offset}
 use Rattle.resp.specs.Told.{no_minus}
 use Rattle.resp.specs.Cases.{case_of_leaf, case_of, begins, case_in, Cased}
-use Rattle.resp.proofs.Outs.{clash, and_then_ok, map_out_ok}
+use Rattle.resp.proofs.Outs.{and_then_ok, map_out_ok}
 use Rattle.resp.proofs.Heads.{Headed, opening_agrees}
 use Rattle.resp.proofs.Opens.{plain_no_minus, ended_ok}
 

@@ -1,5 +1,5 @@
 -- What is read of some bytes is read of more.
-use Rattle.std.proofs.Common.{◌≡◌, ℕ, zero, suc, ◌+◌, ◌-◌, ◌<◌, ◌≤◌, Bool, true, false, cond, ◌&&◌, eqb, ltb, leb, List, [], ◌∷◌, ◌++◌, length, get_or, take, drop, Some, None, Option, sym, refl, ap, ◌∙◌, subst, append_assoc, arith}
+use Rattle.std.proofs.Common.{◌≡◌, ℕ, zero, suc, ◌+◌, ◌-◌, ◌≤◌, Bool, true, false, cond, ◌&&◌, eqb, ltb, leb, List, [], ◌∷◌, ◌++◌, length, get_or, take, drop, Some, None, Option, sym, refl, ap, append_assoc, arith}
 use Rattle.std.proofs.lemmas.List.{length-append, get_or_append_left, take-append-le, drop-append-le}
 use Rattle.std.proofs.lemmas.Bool.{le-ltb, ltb-false}
 use Rattle.utf8.specs.Scan.{ill_formed}
@@ -10,7 +10,7 @@ use Rattle.resp.specs.declared.kind.Kind.{Kind}
 use Rattle.resp.specs.declared.kind.Kind.TheVariants as kind
 use Rattle.resp.specs.Limits.{line_most}
 use Rattle.resp.specs.Out.{Out, ok, fault, and_then, map_out}
-use Rattle.resp.specs.Reading.{kind_of, closing, line, or_content, lined, or_ill, text, text_line, judged, size, is_minus_one, size_or_null, body, is_verbatim, verbatim, bulk, Head, a_leaf, of_array, of_set, of_push, of_map, of_attribute, pushed, head, begun, opening, array, set, push, map, attribute, items, pair, named, parts, form}
+use Rattle.resp.specs.Reading.{kind_of, closing, line, or_content, lined, or_ill, text, text_line, judged, size, is_minus_one, size_or_null, body, is_verbatim, verbatim, bulk, Head, a_leaf, of_array, of_set, of_push, of_map, of_attribute, head, begun, opening, array, set, push, map, attribute, items, pair, named, parts, form}
 use Rattle.resp.specs.Reply.{is_string_reply}
 use Rattle.resp.proofs.Plainly.{plainly, weave}
 

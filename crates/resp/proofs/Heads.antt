@@ -1,21 +1,20 @@
 -- Every kind's rule agrees with the grammar of its wire forms.
-use Rattle.std.proofs.Common.{◌≡◌, ℕ, zero, suc, ◌+◌, ◌<◌, ◌≤◌, Bool, true, false, cond, ◌&&◌, eqb, ltb, List, [], ◌∷◌, ◌++◌, length, get_or, take, drop, ℤ, Some, None, Option, sym, refl, ap, ◌∙◌, subst, append_assoc, arith}
+use Rattle.std.proofs.Common.{◌≡◌, ℕ, ◌<◌, Bool, true, false, cond, eqb, ltb, List, [], ◌∷◌, ◌++◌, length, get_or, take, drop, ℤ, Some, None, Option, sym, refl, ap, ◌∙◌, subst, append_assoc, arith}
 use Rattle.std.proofs.lemmas.List.{take-append-drop, drop_more, length-take-le, length-append, get_or_at, take_at, drop_at, drop-drop}
-use Rattle.std.proofs.lemmas.Bool.{and_parts, and_from, false≢true, ltb-true, lt-ltb, eqb-true, eqb-false, ne_eqb, eq-eqb, cases_Bool}
+use Rattle.std.proofs.lemmas.Bool.{and_parts, and_from, false≢true, ltb-true, lt-ltb, eqb-true, eqb-false, ne_eqb, eq-eqb}
 use Rattle.utf8.specs.Table.{WellFormed}
-use Rattle.numerals.specs.Plain.{Plain}
 use Rattle.numerals.specs.Integer.{integer}
 use Rattle.numerals.specs.Double.{is_double, is_big_number}
 use Rattle.resp.specs.declared.kind.Kind.{Kind}
 use Rattle.resp.specs.declared.kind.Kind.TheVariants as kind
-use Rattle.resp.specs.Limits.{line_most, length_most, items_most, pairs_most}
-use Rattle.resp.specs.Out.{Out, ok, fault, and_then, map_out}
-use Rattle.resp.specs.Reply.{Leaf, Nil, Int, BulkString, SimpleString, Okay, Double, Boolean, VerbatimString, BigNumber, ServerError}
+use Rattle.resp.specs.Limits.{length_most, items_most, pairs_most}
+use Rattle.resp.specs.Out.{Out, ok, and_then, map_out}
+use Rattle.resp.specs.Reply.{Leaf, Nil, Int, BulkString, Okay, Double, Boolean, VerbatimString, BigNumber, ServerError}
 use Rattle.resp.specs.Grammar.{Line, Header, header, Leafed, a_null, a_null_bulk, a_null_array, an_integer, a_true, a_false, a_double, a_big_number, an_okay, a_simple_string, a_simple_error, a_bulk_string, a_bulk_error, a_verbatim_string, crlf}
 use Rattle.resp.specs.Reading.{kind_of, lined, integer_of, null_leaf, boolean_leaf, double_leaf, big_number_leaf, spells_ok, simple_leaf, text, text_line, size, size_or_null, body, is_verbatim, verbatim, bulk, Head, a_leaf, of_array, of_set, of_push, of_map, of_attribute, array_head, pushed, head, begun, opening}
 use Rattle.resp.proofs.Outs.{clash, some_clash, and_then_ok, map_out_ok, by_test}
 use Rattle.resp.proofs.Lists.{Agrees, joined}
-use Rattle.resp.proofs.Openings.{lined_sound, lined_complete, text_sound, text_complete, text_line_sound, text_line_complete, Sized, size_sound, size_complete, NullOr, null_sound, null_complete, body_sound, body_complete}
+use Rattle.resp.proofs.Openings.{lined_sound, lined_complete, text_sound, text_complete, text_line_sound, text_line_complete, size_sound, size_complete, NullOr, null_sound, null_complete, body_sound, body_complete}
 use Rattle.numerals.proofs.IntegerRules.{integers_agree}
 use Rattle.numerals.proofs.DoubleRules.{doubles_agree, big_numbers_agree}
 

@@ -1,11 +1,11 @@
 -- The loop that looks for a line's end.
-use Rattle.std.proofs.Common.{◌≡◌, ℕ, zero, suc, ◌+◌, ◌-◌, ◌<◌, ◌≤◌, Bool, true, false, cond, eqb, List, [], ◌∷◌, ◌++◌, length, get_or, take, drop, Ok, Err, Result, sym, refl, ap, ◌∙◌, subst, ap₂, append_assoc, arith}
-use Rattle.std.proofs.lemmas.List.{append-nil, drop_more, drop_all, drop-drop, take_more, get_or-drop, length-drop}
-use Rattle.std.proofs.lemmas.Bool.{eq-eqb, ne_eqb}
+use Rattle.std.proofs.Common.{◌≡◌, ℕ, zero, suc, ◌+◌, ◌-◌, ◌<◌, ◌≤◌, List, [], ◌∷◌, ◌++◌, length, get_or, take, drop, Ok, Err, sym, refl, ap, ◌∙◌, ap₂, append_assoc, arith}
+use Rattle.std.proofs.lemmas.List.{append-nil, drop_more, drop_all, take_more, get_or-drop, length-drop}
+use Rattle.std.proofs.lemmas.Bool.{ne_eqb}
 use Rattle.resp.specs.declared.fault.WireReason.{WireReason}
 use Rattle.resp.specs.declared.fault.WireReason.TheVariants.{NotWhole, BrokenLine, LongLine}
 use Rattle.resp.specs.declared.fault.WireFault.{WireFault}
-use Rattle.resp.specs.Out.{Out, ok, fault, and_then, map_out}
+use Rattle.resp.specs.Out.{Out, ok, fault, map_out}
 use Rattle.resp.specs.Reading.{line, closing}
 use Rattle.resp.specs.Told.{Told, Faulty, Lines}
 

@@ -1,9 +1,9 @@
 -- Lines.
-use Rattle.std.proofs.Common.{◌≡◌, ℕ, zero, suc, ◌≤◌, Bool, true, false, cond, eqb, List, [], ◌∷◌, ◌++◌, length, sym, refl, ap, ◌∙◌, append_assoc, suc-le-suc, le_of_suc-le-suc, arith}
+use Rattle.std.proofs.Common.{◌≡◌, ℕ, zero, suc, ◌≤◌, eqb, List, [], ◌∷◌, ◌++◌, length, sym, refl, ap, ◌∙◌, append_assoc, suc-le-suc, le_of_suc-le-suc, arith}
 use Rattle.std.proofs.lemmas.Bool.{eqb-true, eqb-false, ne_eqb}
 use Rattle.resp.specs.Limits.{line_most}
 use Rattle.resp.specs.Grammar.{Clean, Line, crlf}
-use Rattle.resp.specs.Out.{Out, ok, fault, and_then, map_out}
+use Rattle.resp.specs.Out.{ok}
 use Rattle.resp.specs.Reading.{line, closing}
 use Rattle.resp.proofs.Outs.{clash, map_out_ok, by_test}
 

@@ -1,6 +1,6 @@
 -- A reader beside a relation, and one item after another.
-use Rattle.std.proofs.Common.{◌≡◌, ℕ, zero, suc, List, [], ◌∷◌, ◌++◌, length, sym, refl, ap, ◌∙◌, append_assoc}
-use Rattle.resp.specs.Out.{Out, ok, fault, and_then, map_out}
+use Rattle.std.proofs.Common.{◌≡◌, ℕ, zero, suc, List, [], ◌++◌, length, sym, refl, ap, ◌∙◌, append_assoc}
+use Rattle.resp.specs.Out.{Out, ok}
 use Rattle.resp.specs.Grammar.{Each, none, more, Two, two}
 use Rattle.resp.specs.Reading.{items, pair}
 use Rattle.resp.proofs.Outs.{and_then_ok, map_out_ok}

@@ -1,17 +1,17 @@
 -- Heads: lines, sizes and bodies, and what each kind makes of them.
-use Rattle.std.proofs.Common.{◌≡◌, ℕ, zero, suc, ◌+◌, ◌<◌, ◌≤◌, Bool, true, false, cond, ◌&&◌, eqb, ltb, leb, List, [], ◌∷◌, ◌++◌, length, get_or, take, drop, Some, None, Option, sym, refl, ap, ◌∙◌, subst, append_assoc, arith}
+use Rattle.std.proofs.Common.{◌≡◌, ℕ, ◌+◌, ◌≤◌, true, false, ◌&&◌, eqb, ltb, leb, List, [], ◌∷◌, ◌++◌, length, get_or, take, drop, Some, None, Option, sym, refl, ap, ◌∙◌, subst, append_assoc, arith}
 use Rattle.std.proofs.lemmas.List.{take-append-drop, drop_more, length-take-le, length-append, get_or_at, get_or-append-add, take_at, drop_at, drop-drop}
-use Rattle.std.proofs.lemmas.Bool.{and_parts, false≢true, ltb-false, ltb-true, le-ltb, lt-ltb, leb-true, le-leb, eqb-true, eqb-false, ne_eqb, eq-eqb}
+use Rattle.std.proofs.lemmas.Bool.{and_parts, false≢true, ltb-false, le-ltb, leb-true, le-leb, eqb-true, ne_eqb}
 use Rattle.std.specs.Int.{is_in_range}
 use Rattle.std.specs.Str.{all_ascii_digits}
 use Rattle.utf8.specs.Table.{WellFormed}
 use Rattle.utf8.specs.Scan.{ill_formed}
 use Rattle.numerals.specs.Plain.{Plain, plain, value}
-use Rattle.resp.specs.Limits.{line_most, length_most, items_most, pairs_most}
-use Rattle.resp.specs.Out.{Out, ok, fault, and_then, map_out}
+use Rattle.resp.specs.Limits.{line_most}
+use Rattle.resp.specs.Out.{ok}
 use Rattle.resp.specs.Grammar.{Line, Header, header, crlf}
-use Rattle.resp.specs.Reading.{line, or_content, lined, or_ill, text, text_line, judged, size, is_minus_one, size_or_null, body}
-use Rattle.resp.proofs.Outs.{clash, some_clash, and_then_ok, map_out_ok, or_content_ok, by_test}
+use Rattle.resp.specs.Reading.{line, lined, or_ill, text, text_line, judged, size, is_minus_one, size_or_null, body}
+use Rattle.resp.proofs.Outs.{clash, and_then_ok, map_out_ok, or_content_ok, by_test}
 use Rattle.resp.proofs.Lines.{line_sound, line_complete}
 use Rattle.utf8.proofs.Verdict.{accepts}
 

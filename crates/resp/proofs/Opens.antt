@@ -1,21 +1,18 @@
 -- How an item is opened, and whether it is a string.
-use Rattle.std.proofs.Common.{◌≡◌, ℕ, zero, suc, ◌+◌, ◌-◌, ◌<◌, ◌≤◌, Bool, true, false, cond, not, eqb, leb, List, [], ◌∷◌, ◌++◌, length, get_or, drop, Some, None, Ok, Err, Option, Result, sym, refl, ap, ◌∙◌, subst, append_assoc, arith}
+use Rattle.std.proofs.Common.{◌≡◌, ℕ, zero, suc, ◌+◌, ◌<◌, Bool, true, false, cond, eqb, leb, List, [], ◌∷◌, ◌++◌, length, get_or, drop, Ok, sym, refl, ap, ◌∙◌, append_assoc, arith}
 use Rattle.std.specs.Int.{is_in_range}
-use Rattle.std.specs.Char.{is_ascii_digit}
 use Rattle.std.specs.Str.{all_ascii_digits}
 use Rattle.std.proofs.lemmas.List.{drop_more, drop_all}
 use Rattle.std.proofs.lemmas.Bool.{and_parts, false≢true, leb-true, leb-false, ne_eqb}
 use Rattle.numerals.specs.Plain.{plain}
-use Rattle.resp.specs.declared.fault.WireReason.TheVariants.{NotWhole, UnknownKind, Limit}
-use Rattle.resp.specs.declared.fault.WireFault.{WireFault}
-use Rattle.resp.specs.declared.kind.Kind.{Kind}
+use Rattle.resp.specs.declared.fault.WireReason.TheVariants.{NotWhole, Limit}
 use Rattle.resp.specs.declared.opening.Opening.{Opening}
 use Rattle.resp.specs.Limits.{items_most}
-use Rattle.resp.specs.Out.{Out, ok, fault, and_then, map_out}
+use Rattle.resp.specs.Out.{Out, ok, fault, map_out}
 use Rattle.resp.specs.Reply.{Leaf, is_string}
 use Rattle.resp.specs.Grammar as grammar
 use Rattle.resp.specs.Grammar.{header, Leafed, crlf}
-use Rattle.resp.specs.Reading.{kind_of, head, begun, opening, Head, a_leaf, of_array, of_set, of_push, of_map, of_attribute, Form, leaf, array, set, push, map, attribute, items, pair, named, parts, form}
+use Rattle.resp.specs.Reading.{kind_of, begun, opening, Head, a_leaf, of_array, of_set, of_push, of_map, of_attribute, Form, leaf, array, set, push, map, attribute, items, pair, named, parts, form}
 use Rattle.resp.specs.Node.{Node, is_string_node, knit, ended, reading}
 use Rattle.resp.specs.Told.{Told, Opens, opening_at, opening_from, starts_string, no_minus}
 use Rattle.resp.proofs.Outs.{clash, and_then_ok, map_out_ok}

@@ -3,7 +3,7 @@ use Rattle.std.proofs.Common.{◌≡◌, ℕ, zero, suc, ◌-◌, Bool, true, fa
 use mathlib.Core.Path.{fun_ext}
 use Rattle.resp.specs.declared.fault.WireReason.TheVariants.{NotWhole, Limit, Content}
 use Rattle.resp.specs.Out.{Out, ok, fault, and_then, map_out}
-use Rattle.resp.specs.Reply.{Reply, One, Array, Set, Push, Map, Attribute, Replies, then, Pairs, pair_then, replies, pairs, is_string_reply}
+use Rattle.resp.specs.Reply.{Reply, One, Array, Set, Push, Map, Attribute, then, pair_then, replies, pairs, is_string_reply}
 use Rattle.resp.specs.Reading.{Head, a_leaf, of_array, of_set, of_push, of_map, of_attribute, Form, leaf, array, set, push, map, attribute, opening, items, pair, named, parts, form}
 use Rattle.resp.specs.Node.{Node, OneAt, ArrayAt, SetAt, PushAt, MapAt, AttributeAt, PairAt, nodes, node_pairs, erase, erase_all, erase_pairs, is_string_node, knit, ended, reading}
 

@@ -1,5 +1,5 @@
 -- What is said of bytes is right.
-use Rattle.std.proofs.Common.{◌≡◌, ℕ, ◌+◌, ◌-◌, ◌<◌, ◌≤◌, ◌≢◌, List, [], ◌∷◌, ◌++◌, length, take, drop, Ok, Err, Result, sym, refl, ap, ◌∙◌, subst, ap₂, arith}
+use Rattle.std.proofs.Common.{◌≡◌, ℕ, ◌+◌, ◌-◌, ◌≤◌, ◌≢◌, List, ◌++◌, length, take, drop, Ok, Err, Result, sym, refl, ap, ◌∙◌, subst, ap₂, arith}
 use Rattle.std.proofs.lemmas.List.{length-append, length-drop, length-take-le, take-append-drop, take_at}
 use Rattle.resp.specs.declared.fault.WireReason.{WireReason}
 use Rattle.resp.specs.declared.fault.WireReason.TheVariants.{NotWhole}
@@ -14,7 +14,7 @@ use Rattle.resp.specs.Node.{Node, erase, reading, offset}
 use Rattle.resp.specs.Told.{Told, Ends, Faulty, Opens, items_in, is_push, opened_as}
 use Rattle.resp.specs.Answer.{located, answered, answer, Begins, Found, Refused, Right}
 use Rattle.resp.proofs.Outs.{clash}
-use Rattle.resp.proofs.Unique.{reads_a_front, reads_all, one_front, lasts, fault_plainly, plainly_fault, whole_some}
+use Rattle.resp.proofs.Unique.{reads_a_front, reads_all, one_front, lasts, fault_plainly, plainly_fault}
 
 -- a place from what is left there
 place_is : (bs rest : List ℕ) (e : ℕ) → e ≤ length bs → rest ≡ drop e bs → e ≡ length bs - length rest

@@ -1,6 +1,6 @@
 -- What the answers of the parts say.
-use Rattle.std.proofs.Common.{◌≡◌, ℕ, zero, suc, ◌+◌, ◌-◌, ◌<◌, ◌≤◌, Bool, true, false, cond, ◌&&◌, eqb, ltb, leb, ◌⊎◌, List, [], ◌∷◌, ◌++◌, length, get_or, take, drop, is_some, Some, None, Ok, Err, Option, Result, sym, refl, ap, ◌∙◌, subst, inl, inr, arith}
-use Rattle.std.proofs.lemmas.List.{drop_all, drop-drop, drop_more, get_or-drop, length-drop, length-take-le, drop-append-le, take-append-drop, drop-take}
+use Rattle.std.proofs.Common.{◌≡◌, ℕ, ◌+◌, ◌-◌, ◌<◌, ◌≤◌, Bool, true, false, cond, ◌&&◌, eqb, ltb, ◌⊎◌, List, ◌∷◌, ◌++◌, length, get_or, take, drop, is_some, Some, None, Ok, Err, Option, Result, sym, refl, ap, ◌∙◌, subst, inl, inr, arith}
+use Rattle.std.proofs.lemmas.List.{drop_all, drop-drop, drop_more, get_or-drop, length-drop, length-take-le, drop-append-le, take-append-drop}
 use Rattle.std.proofs.lemmas.Bool.{false≢true, lt-ltb, le-ltb, ltb-true, ltb-false, and_parts, and_from, eqb-true, eq-eqb}
 use Rattle.utf8.specs.Scan.{ill_formed, Located}
 use Rattle.resp.specs.declared.fault.WireReason.{WireReason}
@@ -8,13 +8,12 @@ use Rattle.resp.specs.declared.fault.WireReason.TheVariants.{NotWhole, Content, 
 use Rattle.resp.specs.declared.fault.WireFault.{WireFault}
 use Rattle.resp.specs.declared.kind.Kind.{Kind}
 use Rattle.resp.specs.declared.kind.Kind.TheVariants as kind
-use Rattle.resp.specs.declared.opening.Nullable.{Nullable}
 use Rattle.resp.specs.declared.opening.Opening.{Opening}
 use Rattle.resp.specs.Limits.{line_most}
 use Rattle.resp.specs.Reply.{Leaf}
 use Rattle.resp.specs.Out.{Out, ok, fault, and_then, map_out}
 use Rattle.resp.specs.Reading.{line, or_content, lined, judged, is_minus_one, size_or_null, body, or_ill, text, leaf_of, a_leaf, head}
-use Rattle.resp.specs.Told.{Told, Faulty, Ends, Lines, Judged, judgement, Nullables, Opens, leaf_opening, body_end}
+use Rattle.resp.specs.Told.{Told, Faulty, Ends, Lines, Judged, Nullables, Opens, leaf_opening, body_end}
 
 pub told_ok : {A V : Type 0} (P : A → List ℕ → V → Type 0) (bs : List ℕ) (o : Out A) (v : V) → Told P bs o (Ok v)
     → (a : A) × (rest : List ℕ) × (o ≡ ok a rest) × P a rest v

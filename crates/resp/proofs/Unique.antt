@@ -1,17 +1,17 @@
 -- The theorems.
-use Rattle.std.proofs.Common.{◌≡◌, ℕ, zero, suc, ◌<◌, ◌≤◌, ◌≢◌, List, [], ◌∷◌, ◌++◌, length, take, drop, sym, refl, ap, ◌∙◌, subst, append_assoc, arith}
-use Rattle.std.proofs.lemmas.List.{append_cancel_right, take-append-drop, length-append}
+use Rattle.std.proofs.Common.{◌≡◌, ℕ, zero, suc, ◌<◌, ◌≢◌, List, [], ◌∷◌, ◌++◌, length, take, drop, sym, refl, ap, ◌∙◌, subst, arith}
+use Rattle.std.proofs.lemmas.List.{append_cancel_right, take-append-drop}
 use Rattle.resp.specs.declared.fault.WireReason.{WireReason}
 use Rattle.resp.specs.declared.fault.WireReason.TheVariants.{NotWhole, UnknownKind, BrokenLine, LongLine, Content, Limit, NotClosed, NotUtf8}
-use Rattle.resp.specs.Out.{Out, ok, fault, and_then, map_out}
+use Rattle.resp.specs.Out.{Out, ok, fault, map_out}
 use Rattle.resp.specs.Reply.{Reply}
-use Rattle.resp.specs.Grammar.{Whole, Each}
+use Rattle.resp.specs.Grammar.{Whole}
 use Rattle.resp.specs.Reading.{items}
 use Rattle.resp.specs.Node.{Node, erase, reading}
 use Rattle.resp.specs.Answer.{number}
 use Rattle.resp.specs.Theorems.{ReadsOnly, ReadsAll, ReadsAFront, OneFront, OneSplit, Stays, Lasts}
 use Rattle.resp.proofs.Outs.{clash, map_out_ok}
-use Rattle.resp.proofs.Lists.{Agrees, items_complete}
+use Rattle.resp.proofs.Lists.{items_complete}
 use Rattle.resp.proofs.Plainly.{plainly, erases}
 use Rattle.resp.proofs.Whole.{plainly_agrees}
 use Rattle.resp.proofs.Firm.{Kept, Extends, firm_plainly}

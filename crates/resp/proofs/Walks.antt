@@ -1,17 +1,16 @@
 -- The walk over a reply and its items.
-use Rattle.std.proofs.Common.{◌≡◌, ℕ, zero, suc, ◌+◌, ◌-◌, ◌*◌, ◌<◌, ◌≤◌, Bool, true, false, cond, List, [], ◌∷◌, ◌++◌, length, get_or, drop, Ok, Err, Result, sym, refl, ap, ◌∙◌, subst, arith}
-use Rattle.std.proofs.lemmas.List.{drop_more, drop_all}
+use Rattle.std.proofs.Common.{◌≡◌, ℕ, zero, suc, ◌+◌, ◌-◌, ◌*◌, ◌<◌, ◌≤◌, Bool, true, false, List, [], ◌∷◌, length, drop, Ok, Err, Result, sym, refl, ap, ◌∙◌, subst, arith}
 use Rattle.std.proofs.lemmas.Bool.{false≢true}
 use Rattle.resp.specs.declared.fault.WireReason.{WireReason}
-use Rattle.resp.specs.declared.fault.WireReason.TheVariants.{NotWhole, Content, Limit}
+use Rattle.resp.specs.declared.fault.WireReason.TheVariants.{Content}
 use Rattle.resp.specs.declared.fault.WireFault.{WireFault}
 use Rattle.resp.specs.declared.opening.Opening.{Opening}
 use Rattle.resp.specs.Out.{Out, ok, fault, and_then, map_out}
-use Rattle.resp.specs.Reading.{Head, a_leaf, of_array, of_set, of_push, of_map, of_attribute, array, set, push, map, attribute, opening, items, pair, named, parts, form}
+use Rattle.resp.specs.Reading.{Head, a_leaf, of_array, of_set, of_push, of_map, of_attribute, array, set, push, map, attribute, items, pair, named, parts, form}
 use Rattle.resp.specs.Node.{Node, is_string_node, ended, reading, offset}
-use Rattle.resp.specs.Told.{Told, Faulty, Ends, Opens, items_in, is_push, opening_at, opening_from, named_end, starts_string}
+use Rattle.resp.specs.Told.{Told, Ends, Opens, items_in, is_push, opening_at, opening_from, named_end, starts_string}
 use Rattle.resp.proofs.Outs.{clash}
-use Rattle.resp.proofs.Tolds.{told_ok, told_err, told_map}
+use Rattle.resp.proofs.Tolds.{told_ok, told_err}
 use Rattle.resp.proofs.Opens.{opening_from_lem, opened_deep, read_string}
 use Rattle.resp.proofs.Heads.{Headed, opening_agrees}
 

@@ -1,9 +1,9 @@
 -- Reading agrees with the grammar.
-use Rattle.std.proofs.Common.{◌≡◌, ℕ, zero, suc, ◌-◌, ◌<◌, ◌≤◌, Bool, true, false, cond, List, [], ◌∷◌, ◌++◌, length, sym, refl, ap, ◌∙◌, subst, append_assoc, arith}
+use Rattle.std.proofs.Common.{◌≡◌, ℕ, zero, suc, ◌-◌, ◌<◌, List, [], ◌∷◌, ◌++◌, length, sym, ap, ◌∙◌, subst, append_assoc, arith}
 use Rattle.std.proofs.lemmas.List.{append-nil}
 use Rattle.resp.specs.Limits.{items_most, pairs_most}
-use Rattle.resp.specs.Out.{Out, ok, fault, and_then, map_out}
-use Rattle.resp.specs.Reply.{Reply, One, is_string_reply}
+use Rattle.resp.specs.Out.{Out, ok, map_out}
+use Rattle.resp.specs.Reply.{Reply, is_string_reply}
 use Rattle.resp.specs.Grammar as grammar
 use Rattle.resp.specs.Grammar.{Header, Each, none, more, Two, Formed, an_array, a_set, a_push, a_map, an_attribute, Whole}
 use Rattle.resp.specs.Reading.{Head, a_leaf, of_array, of_set, of_push, of_map, of_attribute, Form, leaf, array, set, push, map, attribute, opening, items, pair, named, parts, form}

@@ -1,5 +1,5 @@
 -- The case of a reply, and how the first bytes of its wire form tell it.
-use Rattle.std.specs.Prelude.{◌≡◌, ℕ, Bool, true, false, cond, ◌&&◌, ◌||◌, List, [], ◌∷◌, Some, None, Option, ◌==◌}
+use Rattle.std.specs.Prelude.{◌≡◌, ℕ, Bool, true, false, cond, ◌&&◌, List, [], ◌∷◌, Some, None, Option, ◌==◌}
 use Rattle.resp.specs.declared.kind.Kind.{Kind}
 use Rattle.resp.specs.declared.kind.Kind.TheVariants as kind
 use Rattle.resp.specs.declared.case.Case.{Case}

@@ -1,5 +1,5 @@
 -- Located trees: a reply with the places of its first byte and of the first byte after it, and so each of its parts.
-use Rattle.std.specs.Prelude.{ℕ, zero, suc, ◌-◌, Bool, true, false, List, [], ◌∷◌, length}
+use Rattle.std.specs.Prelude.{ℕ, zero, suc, ◌-◌, Bool, false, List, [], ◌∷◌, length}
 use Rattle.resp.specs.declared.fault.WireReason.TheVariants.{NotWhole, Limit}
 use Rattle.resp.specs.Out.{Out, ok, fault}
 use Rattle.resp.specs.Reply.{Leaf, Reply, One, Array, Set, Push, Map, Attribute, Replies, no_more, then, Pairs, no_pair, pair_then, is_string}

@@ -2,7 +2,7 @@
 use Rattle.std.specs.Prelude.{◌≡◌, ℕ, ◌<◌, ◌≤◌, ◌≢◌, List, [], ◌++◌, length, take, drop}
 use Rattle.resp.specs.declared.fault.WireReason.{WireReason}
 use Rattle.resp.specs.declared.fault.WireReason.TheVariants.{NotWhole}
-use Rattle.resp.specs.Out.{Out, ok, fault}
+use Rattle.resp.specs.Out.{ok, fault}
 use Rattle.resp.specs.Reply.{Reply}
 use Rattle.resp.specs.Grammar.{Whole, Each}
 use Rattle.resp.specs.Node.{Node, erase, reading}

@@ -1,4 +1,4 @@
-use Rattle.std.proofs.Common.{get_or, drop, Some, sym, ap, ◌∙◌, arith}
+use Rattle.std.proofs.Common.{drop, Some, sym, ap, ◌∙◌, arith}
 use Rattle.std.proofs.lemmas.List.{at_drop_more, take_rest}
 use Rattle.resp.specs.Cases.{case_by, case_in}
 use Rattle.resp.proofs.case.first_case.Goals as goal

@@ -1,5 +1,5 @@
 use Rattle.std.proofs.Common.{arith}
-use Rattle.resp.proofs.LineSteps.{left_none, left_more, told_lf, told_long, told_end, told_cr_last, told_cr_other, told_cr_lf}
+use Rattle.resp.proofs.LineSteps.{left_more, told_lf, told_long, told_end, told_cr_last, told_cr_other, told_cr_lf}
 use Rattle.resp.proofs.line.line_end.Goals as goal
 
 pub returns-then-from-n : goal.returns-then-from-n

@@ -1,4 +1,4 @@
-use Rattle.std.proofs.Common.{sym, ◌∙◌, arith}
+use Rattle.std.proofs.Common.{sym, arith}
 use Rattle.resp.proofs.Tolds.{null_told, null_size, null_fault, line_inside}
 use Rattle.resp.proofs.size.size_or_null.Goals as goal
 

@@ -1,4 +1,4 @@
-use Rattle.std.proofs.Common.{sym, ap, ◌∙◌, arith}
+use Rattle.std.proofs.Common.{arith}
 use Rattle.std.proofs.lemmas.Result.{err_from_is_err_and}
 use Rattle.resp.proofs.Walks.{deep_enough, walk_shut, push_some, push_fault, push_other, rest_items, rest_push, rest_more, rest_fault, rest_done}
 use Rattle.resp.proofs.walking.+walk_at.Goals as goal
