@@ -1,9 +1,7 @@
 -- Rows inside another shape are found at their place.
-use Rattle.std.proofs.Common.{◌≡◌, ℕ, List, length, Ok, Err, Result, sym, refl, ap, ◌∙◌, subst, arith}
+use Rattle.std.proofs.Common.{◌≡◌, ℕ, List, length, Ok, Err, Result, sym, refl, ap, ◌∙◌, arith}
 use Rattle.resp.specs.Node.{Node}
-use Rattle.reply.specs.declared.view.Reply.{Reply}
 use Rattle.reply.specs.Find.{find}
-use Rattle.reply.specs.Inside.{Inside}
 use Rattle.reply.specs.Parts.{spot_of}
 use Rattle.reply.specs.View.{node_of}
 use Rattle.reply.proofs.Places.{finds_each}
@@ -12,7 +10,7 @@ use Rattle.kinds.specs.Rows.{and_then, counted}
 use Rattle.collections.specs.Counted.{Counted}
 use Rattle.collections.specs.declared.listed.Listed.{Listed}
 use Rattle.collections.specs.Lists.{listed_at, listed_one}
-use Rattle.collections.specs.Picks.{picked, row_at, row_of}
+use Rattle.collections.specs.Picks.{picked, row_of}
 use Rattle.collections.specs.Steps.{nth_in}
 
 module _ {V : Type 0} (rows : Node → Result (List V) Fault) (n : Node) where

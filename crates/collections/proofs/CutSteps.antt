@@ -1,5 +1,5 @@
 -- The cuts of a list, one after another.
-use Rattle.std.proofs.Common.{◌≡◌, ℕ, zero, suc, ◌-◌, ◌<◌, true, List, [], ◌∷◌, ◌++◌, length, take, drop, is_ok, Some, Ok, Err, Result, sym, refl, ap, ◌∙◌, subst, arith, length-drop, take-append-drop}
+use Rattle.std.proofs.Common.{◌≡◌, ℕ, zero, suc, ◌-◌, ◌<◌, true, List, [], ◌∷◌, length, take, drop, is_ok, Some, Ok, Err, Result, sym, refl, ap, ◌∙◌, arith, length-drop}
 use Rattle.kinds.specs.declared.fault.Fault.{Fault}
 use Rattle.kinds.specs.Rows.{and_then, onto, many_by, cuts_from, cuts}
 use Rattle.collections.specs.Steps.{Steps, Falls}

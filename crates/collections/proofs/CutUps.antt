@@ -1,5 +1,5 @@
 -- The cuts of a list are the list, in parts of one size.
-use Rattle.std.proofs.Common.{◌≡◌, ℕ, zero, suc, ◌-◌, ◌<◌, ◌≤◌, min, List, [], ◌∷◌, ◌++◌, length, take, drop, sym, refl, ap, ◌∙◌, subst, arith, length-append, length-drop, take-append-drop, length-take}
+use Rattle.std.proofs.Common.{◌≡◌, ℕ, zero, suc, ◌<◌, ◌≤◌, List, [], ◌∷◌, ◌++◌, length, take, drop, sym, refl, ap, ◌∙◌, subst, arith, length-append, length-drop, take-append-drop, length-take}
 use Rattle.kinds.specs.Rows.{cuts}
 use Rattle.collections.specs.Theorems.{joined_up, Sized, CutUp}
 use Rattle.collections.proofs.CutSteps.{cuts_step}

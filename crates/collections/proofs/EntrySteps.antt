@@ -1,5 +1,5 @@
 -- The entries of a map, read one by one up to the first refusal.
-use Rattle.std.proofs.Common.{◌≡◌, ℕ, ◌<◌, Bool, List, [], ◌∷◌, length, Some, None, Ok, Err, Option, Result, sym, refl, ap, ◌∙◌, subst, arith}
+use Rattle.std.proofs.Common.{◌≡◌, Bool, List, ◌∷◌, None, Ok, Err, Option, Result, sym, refl, ap, ◌∙◌, subst}
 use Rattle.resp.specs.Node.{Node}
 use Rattle.reply.specs.declared.view.Items.{Items}
 use Rattle.reply.specs.View.{nodes_of}

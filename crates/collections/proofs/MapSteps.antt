@@ -1,5 +1,5 @@
 -- The rows of an array as a map.
-use Rattle.std.proofs.Common.{◌≡◌, Bool, List, Option, Result, sym, ap, ◌∙◌, subst}
+use Rattle.std.proofs.Common.{◌≡◌, Bool, List, Option, Result, ap, ◌∙◌, subst}
 use Rattle.resp.specs.declared.case.Case.TheVariants as case
 use Rattle.resp.specs.Node.{Node}
 use Rattle.reply.specs.Parts.{flat_of, spot_of, unwrapped}

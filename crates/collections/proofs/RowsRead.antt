@@ -1,5 +1,5 @@
 -- What the rows of a reply are, where they could be read.
-use Rattle.std.proofs.Common.{◌≡◌, ℕ, ◌%◌, ◌≤◌, Bool, true, false, cond, eqb, leb, ◌⊎◌, List, [], ◌∷◌, ◌++◌, length, take, drop, Some, None, Ok, Err, Option, Result, sym, refl, ap, ◌∙◌, subst, inl, inr, arith}
+use Rattle.std.proofs.Common.{◌≡◌, ℕ, ◌%◌, Bool, true, false, cond, eqb, leb, ◌⊎◌, List, [], ◌∷◌, ◌++◌, length, take, drop, Some, None, Ok, Err, Option, Result, sym, refl, ap, ◌∙◌, inl, inr, arith}
 use Rattle.std.proofs.lemmas.List.{take_at}
 use Rattle.std.proofs.lemmas.Bool.{le-leb}
 use Rattle.resp.specs.declared.case.Case.{Case}
@@ -16,7 +16,7 @@ use Rattle.kinds.specs.Rows.{and_then, bytes_of, cuts, many_by, many_of, mapped,
 use Rattle.kinds.specs.Same.{Equality}
 use Rattle.kinds.specs.Texts.{case_at, text_in}
 use Rattle.collections.specs.Lists.{list_by, list_rows}
-use Rattle.collections.specs.Maps.{entries, entry_one, evenly, map_by, map_of, map_rows, merged}
+use Rattle.collections.specs.Maps.{entries, entry_one, map_by, map_of, map_rows, merged}
 use Rattle.collections.specs.Sets.{firsts, set_by, set_of, set_rows}
 use Rattle.collections.specs.Steps.{tabled}
 use Rattle.collections.specs.Theorems.{OneOf, SetRows, MapRows, ListRows, of_nil, of_bytes, of_one, of_pairs, of_each, of_cuts}

@@ -1,11 +1,8 @@
 -- Members seen before, and the first of each class.
-use Rattle.std.proofs.Common.{◌≡◌, ℕ, zero, suc, ◌-◌, ◌<◌, ◌≤◌, Bool, true, false, cond, ◌||◌, List, [], ◌∷◌, length, take, Some, Ok, Err, Result, sym, refl, ap, ◌∙◌, subst, arith}
+use Rattle.std.proofs.Common.{◌≡◌, ℕ, zero, suc, ◌-◌, ◌<◌, ◌≤◌, Bool, true, false, ◌||◌, List, [], ◌∷◌, length, take, sym, refl, ap, ◌∙◌, arith}
 use Rattle.resp.specs.Node.{Node}
-use Rattle.kinds.specs.declared.fault.Fault.{Fault}
-use Rattle.kinds.specs.Rows.{and_then, onto, many_by}
 use Rattle.collections.specs.Maps.{seen_key}
-use Rattle.collections.specs.Sets.{seen_in, firsts_in}
-use Rattle.collections.specs.Steps.{Steps}
+use Rattle.collections.specs.Sets.{seen_in}
 
 module _ (alike : Node → Node → Bool) (x : Node) where
   open_seen : (k : ℕ) (n : Node) (ns ms : List Node) → (k ≡ 0 → ⊥) → ns ≡ n ∷ ms → seen_in alike x (take k ns) ≡ (alike n x || seen_in alike x (take (k - 1) ms))

@@ -1,6 +1,5 @@
 -- The rows of a list.
 use Rattle.std.specs.Prelude.{◌≡◌, ℕ, ◌<◌, Bool, List, [], length, drop, Some, None, Ok, Err, Option, Result}
-use Rattle.std.specs.declared.marker.PhantomData.{PhantomData}
 use Rattle.resp.specs.declared.case.Case.{Case}
 use Rattle.resp.specs.declared.case.Case.TheVariants as case
 use Rattle.resp.specs.Node.{Node}

@@ -1,6 +1,6 @@
 -- The rows of a map: of equal keys the first stays, with the value of the last. Keys and values stand in one list, one after the
 -- other.
-use Rattle.std.specs.Prelude.{ℕ, suc, ◌-◌, ◌%◌, Bool, true, false, cond, ◌||◌, List, [], ◌∷◌, length, take, Ok, Err, Result, ◌==◌}
+use Rattle.std.specs.Prelude.{suc, ◌-◌, ◌%◌, Bool, false, cond, ◌||◌, List, [], ◌∷◌, length, take, Ok, Err, Result, ◌==◌}
 use Rattle.resp.specs.declared.case.Case.{Case}
 use Rattle.resp.specs.declared.case.Case.TheVariants as case
 use Rattle.resp.specs.Node.{Node}

@@ -1,10 +1,10 @@
 -- The rows of a set: of equal members the first stays.
-use Rattle.std.specs.Prelude.{ℕ, suc, ◌-◌, Bool, true, false, cond, ◌||◌, List, [], ◌∷◌, length, take, Ok, Err, Result}
+use Rattle.std.specs.Prelude.{suc, ◌-◌, Bool, false, cond, ◌||◌, List, [], ◌∷◌, length, take, Ok, Err, Result}
 use Rattle.resp.specs.declared.case.Case.{Case}
 use Rattle.resp.specs.declared.case.Case.TheVariants as case
 use Rattle.resp.specs.Node.{Node}
 use Rattle.reply.specs.declared.spot.Spot.{Spot}
-use Rattle.reply.specs.Parts.{flat_of, parts_of, spot_of, unwrapped}
+use Rattle.reply.specs.Parts.{parts_of, spot_of, unwrapped}
 use Rattle.reply.specs.View.{nodes_of}
 use Rattle.kinds.specs.declared.fault.ElementReason.TheVariants.{Kind}
 use Rattle.kinds.specs.declared.fault.Fault.{Fault}

@@ -28,9 +28,9 @@ fn a_list_of_two_has_no_row_two(rt: HostRuntime) {
 #[test]
 fn a_name_has_the_last_text(rt: HostRuntime) {
     let map = reply::check(b"%3\r\n+a\r\n+b\r\n+c\r\n+d\r\n+a\r\n+e\r\n").reply;
-    assert!(rt; matches!(text_under(map, b"c", b"x"), Ok(text) if text == b"d"));
-    assert!(rt; matches!(text_under(map, b"a", b"x"), Ok(text) if text == b"e"));
-    assert!(rt; matches!(text_under(map, b"b", b"x"), Ok(text) if text == b"x"));
+    assert!(rt; matches!(text_under(map, b"c", b"x"), Ok(text) if text == b"d".as_slice()));
+    assert!(rt; matches!(text_under(map, b"a", b"x"), Ok(text) if text == b"e".as_slice()));
+    assert!(rt; matches!(text_under(map, b"b", b"x"), Ok(text) if text == b"x".as_slice()));
 }
 
 #[test]

@@ -1,10 +1,10 @@
 -- Rows of replies, one after another.
-use Rattle.std.proofs.Common.{◌≡◌, ℕ, zero, suc, ◌+◌, ◌-◌, ◌<◌, ◌≤◌, List, [], ◌∷◌, ◌++◌, length, take, drop, Ok, Err, Result, sym, refl, ap, ◌∙◌, subst, arith}
+use Rattle.std.proofs.Common.{◌≡◌, ℕ, zero, suc, ◌-◌, ◌<◌, List, [], ◌∷◌, take, drop, Result, sym, refl, ap, ◌∙◌, arith}
 use Rattle.resp.specs.Node.{Node}
 use Rattle.reply.specs.declared.view.Items.{Items}
 use Rattle.reply.specs.Tree.{nodes_at}
 use Rattle.reply.specs.View.{nodes_of, nil_node}
-use Rattle.kinds.specs.Rows.{and_then, onto, many_by, first_by}
+use Rattle.kinds.specs.Rows.{first_by}
 use Rattle.kinds.specs.Rows.{first_node}
 
 -- nothing is left

@@ -1,5 +1,5 @@
 -- Texts are the same just where their bytes are.
-use Rattle.std.proofs.Common.{◌≡◌, ℕ, Bool, true, false, ◌&&◌, List, [], ◌∷◌, ℤ, Some, None, Decides, Option, sym, refl, ap, ◌∙◌, subst, arith}
+use Rattle.std.proofs.Common.{◌≡◌, ℕ, Bool, true, false, ◌&&◌, List, ℤ, Some, None, Decides, Option, sym, refl, ap, ◌∙◌, arith}
 use Rattle.std.specs.Str.{bytes_eq}
 use Rattle.std.proofs.lemmas.Slice.Eq.{bytes_eq-Decides}
 use Rattle.numerals.specs.Integer.{integer}
@@ -7,7 +7,7 @@ use Rattle.numerals.proofs.OneLine.{one_line}
 use Rattle.resp.specs.Reply.{Leaf, Nil, Int, BulkString, SimpleString, Okay, Double, Boolean, VerbatimString, BigNumber, ServerError}
 use Rattle.resp.specs.Node.{Node, OneAt, ArrayAt, SetAt, PushAt, MapAt, AttributeAt, PairAt}
 use Rattle.reply.specs.Says.{SaysLeaf, Says}
-use Rattle.kinds.specs.Same.{by_integer, key_of_text, leaf_key, text_key, same_key, same_integer, eqℤ}
+use Rattle.kinds.specs.Same.{by_integer, key_of_text, leaf_key, text_key, same_key, eqℤ}
 use Rattle.kinds.specs.Equalities.{eqℤ_decides}
 
 leaf_key_lem : (l : Leaf) (x : List ℕ) → SaysLeaf l x → leaf_key l ≡ key_of_text x

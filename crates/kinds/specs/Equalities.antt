@@ -1,11 +1,10 @@
 -- The equalities of the kinds.
-use Rattle.std.specs.Prelude.{◌≡◌, ℕ, Bool, true, false, cond, ◌&&◌, eqb, List, [], ◌∷◌, drop, ℤ, pos, negsuc, Some, None, Ok, Err, Option, Result, refl}
-use Rattle.std.proofs.Common.{sym, ap, ◌∙◌, subst, arith, eqb-true, eq-eqb}
+use Rattle.std.specs.Prelude.{◌≡◌, ℕ, Bool, true, false, cond, ◌&&◌, List, drop, ℤ, pos, negsuc, Some, None, Ok, Err, Option, Result, refl}
+use Rattle.std.proofs.Common.{sym, ap, ◌∙◌, subst, eqb-true, eq-eqb}
 use Rattle.std.specs.Bool.{beq}
 use Rattle.std.specs.Str.{bytes_eq}
 use Rattle.std.proofs.lemmas.Slice.Eq.{bytes_eq-Decides}
 use Rattle.std.proofs.lemmas.Bool.{and_parts, false≢true}
-use Rattle.resp.specs.declared.case.Case.{Case}
 use Rattle.resp.specs.Node.{Node}
 use Rattle.reply.specs.Parts.{flat_of, unwrapped}
 use Rattle.kinds.specs.declared.fault.Fault.{Fault}

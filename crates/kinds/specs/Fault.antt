@@ -1,5 +1,5 @@
 -- Refusals, and their numbers.
-use Rattle.std.specs.Prelude.{ℕ, Ok, Err, Result}
+use Rattle.std.specs.Prelude.{ℕ}
 use Rattle.reply.specs.declared.spot.Spot.{Spot}
 use Rattle.resp.specs.Answer as wire
 use Rattle.kinds.specs.declared.fault.ElementReason.{ElementReason}

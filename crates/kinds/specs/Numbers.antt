@@ -1,5 +1,5 @@
 -- What the number kinds read.
-use Rattle.std.specs.Prelude.{ℕ, Bool, true, false, cond, List, ℤ, pos, negsuc, ◌≤ℤ◌, Some, None, Ok, Err, Option, Result, int_lt, unsigned_abs, Float}
+use Rattle.std.specs.Prelude.{ℕ, Bool, List, ℤ, pos, negsuc, ◌≤ℤ◌, Some, None, Ok, Err, Option, Result, int_lt, unsigned_abs, Float}
 use Rattle.decimals.specs.declared.fault.FloatFault.{FloatFault}
 use Rattle.decimals.specs.declared.fault.FloatFault.TheVariants as float
 use Rattle.decimals.specs.Decimal.{read_double, read_float}

@@ -1,5 +1,5 @@
 -- Reading several replies, one row after another.
-use Rattle.std.specs.Prelude.{ℕ, zero, suc, Bool, cond, List, [], ◌∷◌, ◌++◌, length, take, Some, None, Ok, Err, Option, Result}
+use Rattle.std.specs.Prelude.{ℕ, zero, suc, Bool, cond, List, [], ◌∷◌, length, take, Some, None, Ok, Err, Option, Result}
 use Rattle.resp.specs.Node.{Node}
 use Rattle.reply.specs.declared.spot.Spot.{Spot}
 use Rattle.reply.specs.Parts.{spot_of}

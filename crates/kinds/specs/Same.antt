@@ -9,7 +9,7 @@ use Rattle.resp.specs.Reply.{Leaf, Nil, Int, BulkString, SimpleString, Okay, Dou
 use Rattle.resp.specs.Node.{Node, OneAt, ArrayAt, SetAt, PushAt, MapAt, AttributeAt, PairAt}
 use Rattle.reply.specs.Parts.{flat_of, unwrapped}
 use Rattle.kinds.specs.declared.fault.Fault.{Fault}
-use Rattle.kinds.specs.Texts.{case_at, text_in}
+use Rattle.kinds.specs.Texts.{case_at}
 use Rattle.kinds.specs.Plain.{bool_one}
 use Rattle.kinds.specs.Rows.{first_node}
 

@@ -1,5 +1,5 @@
 -- What a reply says, as kinds see it: its case, and what its text is.
-use Rattle.std.specs.Prelude.{ℕ, Bool, true, false, List, [], ◌∷◌}
+use Rattle.std.specs.Prelude.{ℕ, true, false, List, [], ◌∷◌}
 use Rattle.resp.specs.declared.case.Case.{Case}
 use Rattle.resp.specs.Cases.{case_of}
 use Rattle.resp.specs.Reply.{Leaf, Nil, Int, BulkString, SimpleString, Okay, Double, Boolean, VerbatimString, BigNumber, ServerError}

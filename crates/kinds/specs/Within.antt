@@ -1,12 +1,11 @@
 -- What is read lies within the bounds.
-use Rattle.std.specs.Prelude.{◌≡◌, ℕ, Bool, true, false, cond, ◌&&◌, T, List, ℤ, ◌≤ℤ◌, Some, None, Ok, Err, Option, Result, int_le, refl, Float}
-use Rattle.std.proofs.Common.{sym, ap, ◌∙◌, subst}
+use Rattle.std.specs.Prelude.{◌≡◌, ℕ, Bool, true, false, cond, ◌&&◌, T, List, ℤ, Some, None, Ok, Err, Option, Result, int_le, refl, Float}
+use Rattle.std.proofs.Common.{sym, subst}
 use Rattle.std.specs.Int.Signed.{le_z_yes}
-use Rattle.std.proofs.lemmas.Bool.{and_parts, false≢true}
+use Rattle.std.proofs.lemmas.Bool.{and_parts}
 use Rattle.decimals.specs.declared.fault.FloatFault.{FloatFault}
 use Rattle.decimals.specs.Decimal.{read_double}
 use Rattle.decimals.specs.Floats.{whole_float_capped}
-use Rattle.decimals.specs.Whole.{in_range, whole_capped}
 use Rattle.resp.specs.declared.case.Case.{Case}
 use Rattle.resp.specs.declared.case.Case.TheVariants as case
 use Rattle.resp.specs.Node.{Node}

@@ -1,10 +1,10 @@
 -- What is read where some levels are left is read, the same, where one more is.
-use Rattle.std.proofs.Common.{◌≡◌, ℕ, zero, suc, ◌-◌, Bool, true, false, cond, List, [], ◌∷◌, sym, refl, ap, ◌∙◌}
+use Rattle.std.proofs.Common.{◌≡◌, ℕ, zero, suc, ◌-◌, Bool, true, false, cond, List, [], ◌∷◌, refl, ap, ◌∙◌}
 use Rattle.resp.specs.declared.fault.WireReason.TheVariants.{Content}
 use Rattle.resp.specs.Out.{Out, ok, fault, and_then, map_out}
-use Rattle.resp.specs.Reading.{Head, a_leaf, of_array, of_set, of_push, of_map, of_attribute, Form, array, set, push, map, attribute, opening, items, pair, named, parts, form}
-use Rattle.resp.specs.Node.{Node, is_string_node, ended, reading}
-use Rattle.resp.proofs.Outs.{clash, by_test}
+use Rattle.resp.specs.Reading.{Head, a_leaf, of_array, of_set, of_push, of_map, of_attribute, array, set, push, map, attribute, opening, items, pair, named, parts, form}
+use Rattle.resp.specs.Node.{is_string_node, ended, reading}
+use Rattle.resp.proofs.Outs.{clash}
 
 abbrev pub Grows : {A : Type 0} → (List ℕ → Out A) → (List ℕ → Out A) → Type 0
 Grows {A = A} f g = (bs : List ℕ) (a : A) (rest : List ℕ) → f bs ≡ ok a rest → g bs ≡ ok a rest

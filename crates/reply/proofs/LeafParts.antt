@@ -1,10 +1,9 @@
 -- The part of the bytes that the code tells of a leaf.
-use Rattle.std.proofs.Common.{◌≡◌, ℕ, suc, ◌+◌, ◌-◌, ◌^◌, ◌<◌, ◌≤◌, min, Bool, true, false, List, [], ◌∷◌, ◌++◌, length, take, drop, ℤ, Some, None, Option, sym, refl, ap, ◌∙◌, subst, append_assoc, arith}
+use Rattle.std.proofs.Common.{◌≡◌, ℕ, suc, ◌+◌, ◌-◌, ◌^◌, ◌<◌, ◌≤◌, min, Bool, true, false, List, [], ◌∷◌, ◌++◌, length, take, drop, ℤ, Some, None, sym, refl, ap, ◌∙◌, subst, append_assoc, arith}
 use Rattle.std.proofs.lemmas.List.{length-append, length-drop, drop-drop, take_at}
 use Rattle.std.proofs.lemmas.Bool.{false≢true}
 use Rattle.resp.specs.declared.case.Case.{Case}
 use Rattle.resp.specs.declared.case.Case.TheVariants as case
-use Rattle.resp.specs.Out.{Out, ok}
 use Rattle.resp.specs.Reply.{Leaf, Nil, Int, BulkString, SimpleString, Okay, Double, Boolean, VerbatimString, BigNumber, ServerError}
 use Rattle.numerals.specs.Integer.{integer}
 use Rattle.numerals.proofs.IntegerRules.{integers_agree}

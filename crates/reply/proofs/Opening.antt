@@ -3,7 +3,6 @@ use Rattle.std.proofs.Common.{◌≡◌, ℕ, zero, suc, ◌+◌, ◌-◌, ◌*�
 use Rattle.std.proofs.lemmas.List.{drop_at, drop-drop, length-drop, length-append}
 use Rattle.std.proofs.lemmas.Bool.{false≢true}
 use Rattle.resp.specs.declared.case.Case.{Case}
-use Rattle.resp.specs.declared.case.Case.TheVariants as case
 use Rattle.resp.specs.Limits.{deepest, items_most, pairs_most}
 use Rattle.resp.specs.Out.{Out, ok, and_then, map_out}
 use Rattle.resp.specs.Reply.{Leaf, Nil, Int, BulkString, SimpleString, Okay, Double, Boolean, VerbatimString, BigNumber, ServerError}

@@ -1,5 +1,5 @@
 -- Views and rows of them, from where they begin to where they end.
-use Rattle.std.proofs.Common.{◌≡◌, ℕ, zero, suc, ◌+◌, ◌-◌, ◌<◌, ◌≤◌, Bool, true, false, List, [], ◌∷◌, ◌++◌, length, get_or, take, drop, Ok, Err, Result, sym, refl, ap, ◌∙◌, subst, arith}
+use Rattle.std.proofs.Common.{◌≡◌, ℕ, zero, suc, ◌+◌, ◌-◌, ◌<◌, ◌≤◌, Bool, true, false, List, [], ◌∷◌, length, drop, Ok, Err, Result, sym, refl, ap, ◌∙◌, arith}
 use Rattle.std.proofs.lemmas.List.{drop_all, drop_at, drop-drop, length-drop, length-append}
 use Rattle.std.proofs.lemmas.Bool.{false≢true}
 use Rattle.resp.specs.declared.fault.WireReason.TheVariants.{NotWhole}
@@ -10,8 +10,8 @@ use Rattle.resp.specs.Reply.{Nil}
 use Rattle.resp.specs.Reading.{items, pair}
 use Rattle.resp.specs.Node.{Node, OneAt, erase, reading, offset}
 use Rattle.resp.specs.Answer.{located, answered, answer}
-use Rattle.resp.proofs.Outs.{clash, and_then_ok, map_out_ok}
-use Rattle.resp.proofs.Unique.{read_plainly, plainly_read, fault_plainly, plainly_fault, reads_a_front}
+use Rattle.resp.proofs.Outs.{and_then_ok, map_out_ok}
+use Rattle.resp.proofs.Unique.{read_plainly, plainly_read, reads_a_front}
 use Rattle.reply.specs.Parts.{pair_node}
 use Rattle.reply.specs.Tree.{view, view_at, row_at, is_read, read_or, node_at, nodes_at, Ended, RowEnded}
 

@@ -1,6 +1,6 @@
 -- The bytes of a reply's part are its text.
-use Rattle.std.proofs.Common.{◌≡◌, ℕ, suc, ◌+◌, ◌-◌, ◌<◌, ◌≤◌, Bool, true, false, List, [], ◌∷◌, ◌++◌, length, take, drop, sym, refl, ap, ◌∙◌, subst, append_assoc, arith}
-use Rattle.std.proofs.lemmas.List.{length-append, length-drop, drop-drop, drop_at, take_at}
+use Rattle.std.proofs.Common.{◌≡◌, ℕ, ◌+◌, ◌-◌, ◌≤◌, Bool, true, false, List, [], ◌∷◌, ◌++◌, length, take, drop, sym, refl, ap, ◌∙◌, subst, append_assoc, arith}
+use Rattle.std.proofs.lemmas.List.{length-append, drop-drop, drop_at, take_at}
 use Rattle.numerals.proofs.IntegerRules.{integers_agree}
 use Rattle.resp.specs.Reply.{Leaf, Nil, Int, BulkString, SimpleString, Okay, Double, Boolean, VerbatimString, BigNumber, ServerError}
 use Rattle.resp.specs.Grammar as grammar
@@ -13,7 +13,7 @@ use Rattle.resp.specs.Cases.{case_of}
 use Rattle.resp.specs.Node.{Node, OneAt, ArrayAt, SetAt, PushAt, MapAt, AttributeAt, PairAt, erase}
 use Rattle.reply.specs.Tree.{view_at, is_read, node_at, wholly}
 use Rattle.reply.proofs.Views.{single}
-use Rattle.reply.proofs.Opening.{LeafAt, leaf_at}
+use Rattle.reply.proofs.Opening.{leaf_at}
 use Rattle.reply.proofs.LeafParts.{text_single, no_part, start_at}
 
 -- some bytes, then c, then others: c stands where they end

@@ -1,6 +1,6 @@
 -- A row of one view.
-use Rattle.std.proofs.Common.{◌≡◌, ℕ, Bool, true, List, [], ◌∷◌, length, drop, sym, refl, ap, ◌∙◌}
-use Rattle.resp.specs.Out.{Out, ok, and_then, map_out}
+use Rattle.std.proofs.Common.{◌≡◌, ℕ, Bool, true, List, [], ◌∷◌, length, sym, ap, ◌∙◌}
+use Rattle.resp.specs.Out.{ok, and_then, map_out}
 use Rattle.resp.specs.Reading.{items}
 use Rattle.resp.specs.Node.{Node, offset}
 use Rattle.reply.specs.Tree.{view, view_at, row_at, is_read, node_at, nodes_at}

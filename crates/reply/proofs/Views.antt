@@ -1,19 +1,18 @@
 -- Where views begin, and the two parts of a pair.
-use Rattle.std.proofs.Common.{◌≡◌, ℕ, zero, suc, ◌+◌, ◌-◌, ◌<◌, ◌≤◌, Bool, true, false, List, [], ◌∷◌, length, drop, sym, refl, ap, ◌∙◌, subst, arith}
+use Rattle.std.proofs.Common.{◌≡◌, ℕ, ◌≤◌, Bool, true, false, List, [], ◌∷◌, length, drop, sym, refl, ap, ◌∙◌, arith}
 use Rattle.std.proofs.lemmas.List.{length-drop}
 use Rattle.std.proofs.lemmas.Bool.{false≢true}
 use Rattle.resp.specs.declared.case.Case.TheVariants as case
 use Rattle.resp.specs.Cases.{case_of}
 use Rattle.resp.specs.Limits.{deepest}
-use Rattle.resp.specs.Out.{Out, ok, fault, and_then, map_out}
-use Rattle.resp.specs.Reply.{Nil}
+use Rattle.resp.specs.Out.{ok, and_then, map_out}
 use Rattle.resp.specs.Reading.{Form, leaf, array, set, push, map, attribute, form, pair}
 use Rattle.resp.specs.Node.{Node, OneAt, ArrayAt, SetAt, PushAt, MapAt, AttributeAt, PairAt, erase, is_string_node, knit, reading, offset}
 use Rattle.resp.proofs.Outs.{and_then_ok, map_out_ok}
 use Rattle.resp.proofs.Opens.{ended_ok}
 use Rattle.reply.specs.declared.spot.Spot.{Spot}
 use Rattle.reply.specs.Parts.{start_of, is_pair, spot_of, pair_node, parts_of, flat_of, inner_of, unwrapped, key_of, value_of}
-use Rattle.reply.specs.Tree.{view_at, row_at, is_read, read_or, node_at, nodes_at, wholly, Ended}
+use Rattle.reply.specs.Tree.{view_at, row_at, is_read, node_at, nodes_at, wholly, Ended}
 use Rattle.reply.proofs.Rows.{read_ok, ok_read, node_is, nodes_are}
 
 pub knit_start : (p e : ℕ) (f : Form Node) → start_of (knit p e f) ≡ p

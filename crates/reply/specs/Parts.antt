@@ -1,6 +1,5 @@
 -- The parts of located trees.
 use Rattle.std.specs.Prelude.{ℕ, Bool, true, false, List, [], ◌∷◌, ◌++◌}
-use Rattle.resp.specs.Reply.{Leaf}
 use Rattle.resp.specs.Node.{Node, OneAt, ArrayAt, SetAt, PushAt, MapAt, AttributeAt, PairAt, Nodes, no_node, node_then, NodePairs, no_nodes, nodes_then}
 use Rattle.reply.specs.declared.spot.Spot.{Spot}
 

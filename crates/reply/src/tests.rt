@@ -25,15 +25,15 @@ fn keys_and_values_in_turn(rt: HostRuntime) {
     let map = crate::check(b"%1\r\n+a\r\n:5\r\n").reply;
     let mut halves = map.flat();
     assert!(rt; halves.len() == 2);
-    assert!(rt; halves.next().text() == b"a");
+    assert!(rt; halves.next().text() == b"a".as_slice());
     assert!(rt; halves.next().integer() == Some(5));
 }
 
 #[test]
 fn a_verbatim_string_has_a_format(rt: HostRuntime) {
     let reply = crate::check(b"=5\r\ntxt:a\r\n").reply;
-    assert!(rt; reply.format() == b"txt");
-    assert!(rt; reply.text() == b"a");
+    assert!(rt; reply.format() == b"txt".as_slice());
+    assert!(rt; reply.text() == b"a".as_slice());
 }
 
 #[test]

@@ -1,17 +1,15 @@
 -- Kinds read back what they wrote.
-use Rattle.std.specs.Prelude.{◌≡◌, ℕ, suc, Bool, true, false, cond, ◌&&◌, List, [], ◌∷◌, length, take, drop, ℤ, pos, Some, None, Ok, Err, Option, Result, ◌==◌, nat_eq, refl}
+use Rattle.std.specs.Prelude.{◌≡◌, ℕ, suc, true, false, cond, ◌&&◌, List, [], ◌∷◌, length, take, drop, pos, Some, None, Ok, Err, Result, ◌==◌, nat_eq, refl}
 use Rattle.std.proofs.Common.{sym, ap, ◌∙◌, subst, arith}
-use Rattle.std.specs.Int.Signed.{le_z}
 use Rattle.std.proofs.lemmas.Bool.{false≢true}
 use Rattle.resp.specs.declared.case.Case.TheVariants as case
-use Rattle.resp.specs.Reply.{Leaf, Nil, Int, BulkString, SimpleString, Okay, Double, Boolean, VerbatimString, BigNumber, ServerError, Reply, One, Array, Set, Push, Map, Attribute, replies}
+use Rattle.resp.specs.Reply.{Leaf, Nil, Int, BulkString, SimpleString, Okay, Double, Boolean, VerbatimString, BigNumber, ServerError, Reply, One}
 use Rattle.resp.specs.Node.{Node, OneAt, ArrayAt, SetAt, PushAt, MapAt, AttributeAt, PairAt, erase}
-use Rattle.reply.specs.declared.part.Part.{Part}
 use Rattle.reply.specs.declared.spot.Spot.{Spot}
 use Rattle.reply.specs.Held.{Held}
 use Rattle.reply.specs.Inside.{Inside}
 use Rattle.reply.specs.Parted.{part_of}
-use Rattle.reply.specs.Parts.{flat_of, parts_of, spot_of, unwrapped}
+use Rattle.reply.specs.Parts.{flat_of, spot_of, unwrapped}
 use Rattle.reply.specs.Says.{Says}
 use Rattle.utf8.specs.Scan.{ill_formed}
 use Rattle.kinds.specs.declared.bounds.Bounds.{Bounds}
@@ -20,11 +18,11 @@ use Rattle.kinds.specs.declared.fault.Fault.{Fault}
 use Rattle.kinds.specs.Fault.{refused}
 use Rattle.kinds.specs.Numbers.{integer_one, natural, natural_one, or_refuse}
 use Rattle.kinds.specs.Plain.{bool_one, option_by, option_one, some, text_one, utf8_by, value_one}
-use Rattle.kinds.specs.Rows.{and_then, first_node, many_by, many_of, mapped, onto}
+use Rattle.kinds.specs.Rows.{and_then, many_by, many_of, mapped, onto}
 use Rattle.kinds.specs.Texts.{case_at}
-use Rattle.kinds.specs.Tuples.{exactly, fields2, fields3, fields4, holds, is_tuple, tuple_flat, tuple_joined, tuple_one}
-use Rattle.writes.specs.Writing.{All, Each, ManyBack, ReadsBack, InBounds, is_solid, NaturalCan, OptionCan, OptionStands, option_written, PlaceStands, TextStands, written2, written3, written4, Stands2, Stands3, Stands4, Can2, Can3, Can4}
-use Rattle.writes.specs.Trees.{IsLeaf, Holds, leaf_of_lem, array_of, all_inside}
+use Rattle.kinds.specs.Tuples.{exactly, fields2, fields3, fields4, holds, is_tuple, tuple_flat, tuple_one}
+use Rattle.writes.specs.Writing.{All, ManyBack, ReadsBack, InBounds, is_solid, NaturalCan, OptionCan, OptionStands, option_written, PlaceStands, TextStands, written2, written3, written4, Stands2, Stands3, Stands4, Can2, Can3, Can4}
+use Rattle.writes.specs.Trees.{leaf_of_lem, array_of, all_inside}
 
 -- each by itself
 pub each_back : {V M : Type 0} (tree : Node) (one : Node → Result V Fault) (can : M → Type 0) (written : M → Reply) (stands : V → M → Type 0)

@@ -1,15 +1,13 @@
 -- Lists, sets and maps read back what they wrote.
-use Rattle.std.specs.Prelude.{◌≡◌, ℕ, suc, ◌+◌, ◌-◌, Bool, true, false, cond, ◌||◌, List, [], ◌∷◌, ◌++◌, length, take, drop, Some, None, Ok, Err, Option, Result, refl}
+use Rattle.std.specs.Prelude.{◌≡◌, ℕ, suc, ◌-◌, Bool, false, cond, ◌||◌, List, [], ◌∷◌, ◌++◌, length, take, Ok, Option, Result, refl}
 use Rattle.std.proofs.Common.{sym, ap, ◌∙◌, subst, append_assoc, arith, length-append}
 use Rattle.std.proofs.lemmas.List.{take_at}
-use Rattle.resp.specs.declared.case.Case.TheVariants as case
-use Rattle.resp.specs.Reply.{Reply, Array, Set, Map, pairs, replies}
+use Rattle.resp.specs.Reply.{Reply}
 use Rattle.resp.specs.Node.{Node, erase}
 use Rattle.reply.specs.declared.spot.Spot.{Spot}
-use Rattle.reply.specs.Find.{find}
 use Rattle.reply.specs.Held.{Held}
 use Rattle.reply.specs.Inside.{Inside}
-use Rattle.reply.specs.Parts.{flat_of, parts_of, spot_of, unwrapped}
+use Rattle.reply.specs.Parts.{flat_of, parts_of, spot_of}
 use Rattle.kinds.specs.declared.fault.Fault.{Fault}
 use Rattle.kinds.specs.Rows.{and_then, bytes_of, counted, many_by, many_of, mapped, onto}
 use Rattle.kinds.specs.Texts.{case_at, text_in}
@@ -18,7 +16,7 @@ use Rattle.collections.specs.Lists.{list_by, list_rows, listed_at, listed_one}
 use Rattle.collections.specs.Maps.{entries, entry_one, last_for, map_by, map_of, map_rows, merged_in, seen_key}
 use Rattle.collections.specs.Sets.{firsts_in, seen_in, set_by, set_of, set_rows}
 use Rattle.writes.specs.Writing.{All, Apart, Each, ManyBack, ReadsBack, Unlike, Can2, list_written, MapCan, map_written, RowsStand, SetCan, set_written, Stands2}
-use Rattle.writes.specs.Trees.{Holds, Maps, all_inside, alternated, array_of, map_of_lem, set_of_lem}
+use Rattle.writes.specs.Trees.{all_inside, alternated, array_of, map_of_lem, set_of_lem}
 use Rattle.writes.specs.ReadBack.{each_back}
 
 -- the rows of a part, as a value

@@ -1,8 +1,8 @@
 -- Located trees by the reply that they are.
-use Rattle.std.specs.Prelude.{◌≡◌, ℕ, Bool, true, false, List, [], ◌∷◌, ◌++◌, refl}
+use Rattle.std.specs.Prelude.{◌≡◌, ℕ, List, [], ◌∷◌, refl}
 use Rattle.std.proofs.Common.{sym, ap, ◌∙◌, subst, arith}
 use Rattle.resp.specs.declared.case.Case.TheVariants as case
-use Rattle.resp.specs.Reply.{Leaf, Nil, Int, BulkString, SimpleString, Okay, Double, Boolean, VerbatimString, BigNumber, ServerError, Reply, One, Array, Set, Push, Map, Attribute, Replies, no_more, then, Pairs, no_pair, pair_then, replies, pairs}
+use Rattle.resp.specs.Reply.{Leaf, Reply, One, Array, Set, Map, replies, pairs}
 use Rattle.resp.specs.Node.{Node, OneAt, ArrayAt, SetAt, PushAt, MapAt, AttributeAt, PairAt, Nodes, no_node, node_then, NodePairs, no_nodes, nodes_then, erase, erase_all, erase_pairs}
 use Rattle.reply.specs.Parts.{flat_of, flattened, inner_of, listed, paired, parts_of, pair_node, unwrapped}
 use Rattle.reply.specs.Inside.{Among, first, later, Inside, itself, below}

@@ -1,11 +1,10 @@
 -- What kinds write, and what a value that was read stands for.
-use Rattle.std.specs.Prelude.{◌≡◌, ℕ, ◌^◌, ◌<◌, Bool, true, false, ◌&&◌, ◌≢◌, List, [], ◌∷◌, length, take, drop, ℤ, pos, Some, None, Ok, Err, Option, Result, int_le}
-use Rattle.resp.specs.Reply.{Leaf, Nil, Int, BulkString, SimpleString, Okay, Double, Boolean, VerbatimString, BigNumber, ServerError, Reply, One, Array, Set, Push, Map, Attribute, pairs, replies}
+use Rattle.std.specs.Prelude.{◌≡◌, ℕ, ◌^◌, ◌<◌, Bool, true, false, ◌&&◌, List, [], ◌∷◌, length, take, drop, ℤ, pos, Some, None, Ok, Option, Result, int_le}
+use Rattle.resp.specs.Reply.{Nil, Int, BulkString, SimpleString, Okay, Double, Boolean, VerbatimString, BigNumber, ServerError, Reply, One, Array, Set, Push, Map, Attribute, pairs, replies}
 use Rattle.resp.specs.Node.{Node, erase}
 use Rattle.reply.specs.declared.part.Part.{Part}
 use Rattle.reply.specs.declared.spot.Spot.{Spot}
 use Rattle.reply.specs.Find.{find}
-use Rattle.reply.specs.Held.{Held}
 use Rattle.reply.specs.Inside.{Inside}
 use Rattle.kinds.specs.declared.bounds.Bounds.{Bounds}
 use Rattle.kinds.specs.declared.fault.Fault.{Fault}

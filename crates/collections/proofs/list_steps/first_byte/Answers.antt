@@ -1,4 +1,4 @@
-use Rattle.std.proofs.Common.{◌≡◌, ◌<◌, length, ap, ◌∙◌, arith}
+use Rattle.std.proofs.Common.{ap, ◌∙◌, arith}
 use Rattle.collections.specs.Lists.{bytes_left}
 use Rattle.collections.proofs.ListSteps.{bytes_none, empty_of}
 use Rattle.collections.proofs.list_steps.first_byte.Goals as goal

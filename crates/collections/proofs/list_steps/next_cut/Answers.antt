@@ -1,4 +1,4 @@
-use Rattle.std.proofs.Common.{◌≡◌, ◌<◌, length, arith}
+use Rattle.std.proofs.Common.{◌<◌, length, arith}
 use Rattle.reply.specs.View.{nodes_of}
 use Rattle.kinds.proofs.RowSteps.{none_left}
 use Rattle.collections.proofs.CutSteps.{cut_none, cut_step, cut_falls}

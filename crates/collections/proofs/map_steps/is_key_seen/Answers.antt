@@ -1,4 +1,4 @@
-use Rattle.std.proofs.Common.{◌≡◌, ◌<◌, length, sym, ap, ◌∙◌, arith}
+use Rattle.std.proofs.Common.{◌<◌, length, sym, ◌∙◌, arith}
 use Rattle.reply.specs.View.{node_of, nodes_of}
 use Rattle.collections.proofs.SetSteps.{key_here, key_next, key_few, key_none}
 use Rattle.collections.proofs.map_steps.is_key_seen.Goals as goal

@@ -1,4 +1,4 @@
-use Rattle.std.proofs.Common.{◌≡◌, sym, ap, ◌∙◌, arith}
+use Rattle.std.proofs.Common.{sym, ap, ◌∙◌, arith}
 use Rattle.kinds.specs.Rows.{many_by}
 use Rattle.kinds.proofs.RowSteps.{none_left}
 use Rattle.collections.specs.Steps.{judged}

@@ -1,4 +1,4 @@
-use Rattle.std.proofs.Common.{◌≡◌, ◌-◌, take, sym, ap, ◌∙◌, arith}
+use Rattle.std.proofs.Common.{sym, ◌∙◌, arith}
 use Rattle.reply.specs.View.{node_of, nodes_of}
 use Rattle.kinds.proofs.RowSteps.{none_left}
 use Rattle.collections.proofs.SetSteps.{seen_here, seen_next, seen_none}

@@ -1,5 +1,4 @@
-use Rattle.std.proofs.Common.{◌≡◌, ◌<◌, length, arith}
-use Rattle.kinds.specs.Rows.{onto}
+use Rattle.std.proofs.Common.{◌<◌, length, arith}
 use Rattle.collections.proofs.TableSteps.{step_row, laid_more, laid_here, laid_all}
 use Rattle.collections.proofs.table.fill_left.Goals as goal
 

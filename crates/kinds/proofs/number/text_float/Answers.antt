@@ -1,4 +1,4 @@
-use Rattle.std.proofs.Common.{◌≡◌, Ok, Err, ap, ◌∙◌}
+use Rattle.std.proofs.Common.{Ok, Err, ap, ◌∙◌}
 use Rattle.reply.specs.Parts.{spot_of}
 use Rattle.reply.specs.View.{node_of}
 use Rattle.kinds.specs.Numbers.{float_or, text_float}

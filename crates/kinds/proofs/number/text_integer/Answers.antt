@@ -1,4 +1,4 @@
-use Rattle.std.proofs.Common.{◌≡◌, ap, ◌∙◌}
+use Rattle.std.proofs.Common.{ap, ◌∙◌}
 use Rattle.decimals.specs.Whole.{whole_capped}
 use Rattle.reply.specs.Parts.{spot_of}
 use Rattle.reply.specs.View.{node_of}

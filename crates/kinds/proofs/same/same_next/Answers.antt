@@ -1,5 +1,4 @@
-use Rattle.std.proofs.Common.{◌≡◌, ap, ◌∙◌}
-use Rattle.resp.specs.Node.{Node}
+use Rattle.std.proofs.Common.{ap, ◌∙◌}
 use Rattle.reply.specs.View.{node_of, nodes_of}
 use Rattle.kinds.specs.Rows.{first_node}
 use Rattle.kinds.proofs.RowSteps.{passed}

@@ -1,4 +1,4 @@
-use Rattle.std.proofs.Common.{◌≡◌, ℕ, ◌+◌, ◌-◌, take, drop, ap, subst, arith}
+use Rattle.std.proofs.Common.{◌≡◌, ◌+◌, ◌-◌, take, drop, subst, arith}
 use Rattle.reply.specs.View.{node_of}
 use Rattle.reply.specs.Says.{Says}
 use Rattle.kinds.proofs.TextSteps.{says_text}

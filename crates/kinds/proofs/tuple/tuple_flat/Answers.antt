@@ -1,4 +1,4 @@
-use Rattle.std.proofs.Common.{◌≡◌, sym, ap, ◌∙◌, arith}
+use Rattle.std.proofs.Common.{sym, ap, ◌∙◌, arith}
 use Rattle.reply.specs.View.{nodes_of}
 use Rattle.kinds.specs.Tuples.{tuple_flat}
 use Rattle.kinds.proofs.RowSteps.{none_left}

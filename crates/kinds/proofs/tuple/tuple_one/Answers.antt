@@ -1,4 +1,4 @@
-use Rattle.std.proofs.Common.{◌≡◌, suc, true, eqb, length, sym, ap, ◌∙◌, subst}
+use Rattle.std.proofs.Common.{◌≡◌, suc, true, eqb, length, sym, ap, ◌∙◌}
 use Rattle.reply.specs.View.{node_of, nodes_of}
 use Rattle.kinds.specs.Texts.{case_at}
 use Rattle.kinds.specs.Tuples.{holds}

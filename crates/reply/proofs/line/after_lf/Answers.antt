@@ -1,4 +1,4 @@
-use Rattle.std.proofs.Common.{arith, rules}
+use Rattle.std.proofs.Common.{rules}
 use Rattle.reply.proofs.PartSteps.{lf_here, lf_more, lf_end}
 use Rattle.reply.proofs.line.after_lf.Goals as goal
 

@@ -1,4 +1,4 @@
-use Rattle.std.proofs.Common.{◌≡◌, ◌∙◌}
+use Rattle.std.proofs.Common.{◌∙◌}
 use Rattle.reply.specs.Inside.{itself}
 use Rattle.reply.specs.View.{node_of}
 use Rattle.reply.proofs.Places.{views_hold}

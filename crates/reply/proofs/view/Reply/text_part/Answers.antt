@@ -1,4 +1,4 @@
-use Rattle.std.proofs.Common.{sym, ap, ◌∙◌, subst}
+use Rattle.std.proofs.Common.{sym, ap, ◌∙◌}
 use Rattle.resp.specs.Cases.{case_of}
 use Rattle.resp.specs.Node.{erase}
 use Rattle.reply.specs.Parted.{part_of, textual}
