@@ -9,7 +9,7 @@ use Rattle.numerals.specs.Double.{Sign, Digits, Fraction, Exponent, Double, BigN
 use Rattle.numerals.specs.Double.Sign.{no_sign, plus_sign, minus_sign}
 use Rattle.numerals.specs.Double.Fraction.{no_fraction, point}
 use Rattle.numerals.specs.Double.Exponent.{no_exponent, small_e, large_e}
-use Rattle.numerals.specs.Double.Double.{infinity, minus_infinity, not_a_number_lem, finite}
+use Rattle.numerals.specs.Double.Double.{infinity, minus_infinity, not_a_number, finite}
 use Rattle.numerals.specs.Double.BigNumber.{big}
 use Rattle.numerals.specs.Theorems.{DoublesAgree, BigNumbersAgree}
 
@@ -93,7 +93,7 @@ word_sound [] t = absurd (false≢true t)
 word_sound (x ∷ []) t = absurd (false≢true t)
 word_sound (x ∷ y ∷ []) t = absurd (false≢true t)
 word_sound (x ∷ y ∷ z ∷ []) t =
-    ⊎_elim (λ h. rw (letters x y z 105 110 102 h) infinity) (λ h. rw (letters x y z 110 97 110 h) not_a_number_lem) (or_cases _ _ t)
+    ⊎_elim (λ h. rw (letters x y z 105 110 102 h) infinity) (λ h. rw (letters x y z 110 97 110 h) not_a_number) (or_cases _ _ t)
 word_sound (x ∷ y ∷ z ∷ w ∷ []) t =
     let p = and_parts (eqb x 45) _ t in
     rw (eqb-true x 45 p.0, letters y z w 105 110 102 p.1) minus_infinity
@@ -160,7 +160,7 @@ fraction_complete (point {c} g) x = digits_complete is_exponent c _ g (exponent_
 double_complete : {c : List ℕ} → Double c → is_double c ≡ true
 double_complete infinity = refl
 double_complete minus_infinity = refl
-double_complete not_a_number_lem = refl
+double_complete not_a_number = refl
 double_complete (finite {s} {d} {f} {e} sign g x y) =
     or_right (is_word (s ++ (d ++ (f ++ e)))) _ (signed_complete is_fraction s d (f ++ e) sign g (fraction_stops x y) (fraction_complete x y))
 

@@ -30,7 +30,7 @@ pub data Exponent : List ℕ → Type 0 where
 pub data Double : List ℕ → Type 0 where
   infinity : Double (105 ∷ 110 ∷ 102 ∷ [])
   minus_infinity : Double (45 ∷ 105 ∷ 110 ∷ 102 ∷ [])
-  not_a_number_lem : Double (110 ∷ 97 ∷ 110 ∷ [])
+  not_a_number : Double (110 ∷ 97 ∷ 110 ∷ [])
   finite : {s d f e : List ℕ} → Sign s → Digits d → Fraction f → Exponent e → Double (s ++ (d ++ (f ++ e)))
 
 -- the line of a big number

@@ -119,7 +119,7 @@ unfolding wholly_row
 inner_row_lem bs false p le h =
     let (t, rest, o) = read_ok (view_at bs false p) h in
     let (hd, more, i, in', w) = row_is bs p t rest le o in
-    (_, w.inner)
+    (_, w.spread.inner)
 inner_row_lem bs true p le h =
     let (k, v, more, rest, o, i, w) = halves bs p h in
     let (a, b) = pair_flat bs true p refl h in

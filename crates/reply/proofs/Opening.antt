@@ -19,7 +19,7 @@ use Rattle.reply.specs.Tree.{view, view_at, row_at, is_read, node_at, wholly, wh
 use Rattle.reply.specs.declared.open.Row.{Row}
 use Rattle.resp.specs.Grammar.{Header, header, Leafed}
 use Rattle.reply.specs.Parted.{textual}
-use Rattle.reply.specs.Opened.{row_from, singles, inner_row, Inner, Opened, attributes, Attributed}
+use Rattle.reply.specs.Opened.{row_from, singles, inner_row, Inner, Opened, Spread, attributes, Attributed}
 use Rattle.reply.proofs.Grows.{grows, grows_items, grows_pair}
 use Rattle.reply.proofs.Rows.{read_ok, ok_read, node_is, nodes_are}
 use Rattle.reply.proofs.Views.{level}
@@ -69,6 +69,11 @@ items_and_one f (suc m) l as' more a rest e o =
     let (bs', r, s) = map_out_ok (items f m l') _ as' more q in
     rw next (ap (λ o. and_then o (λ a more. map_out (λ l. a ∷ l) (items f (m + 1) more))) o1 ∙ ap (map_out (λ l. b ∷ l)) (items_and_one f m l' bs' more a rest r o) ∙ ap (λ x. ok (x ++ (a ∷ [])) rest) s)
 
+-- all that is said of the row of the reply at p
+pub record Rowed (bs : List ℕ) (p : ℕ) (r : Row) : Type 0 where
+  pub opened : Opened bs p r
+  pub spread : Spread bs p r
+
 module _ (bs : List ℕ) (p : ℕ) where
   at : List ℕ → ℕ
   at = offset (length bs)
@@ -78,18 +83,17 @@ module _ (bs : List ℕ) (p : ℕ) where
       → row_at bs false e (singles m n) ≡ ok fs rest → fs ≡ flat_of (node_at bs false p)
       → Inner bs false p (inner_row (is_attribute (node_at bs false p)) (record { at = e; left = n; pairs = m }))
       → (is_attribute (node_at bs false p) ≡ true → (q : ℕ) → RowEnded bs m e n q → (wholly bs false q ≡ true) × (node_at bs false q ≡ unwrapped (node_at bs false p)))
-      → Opened bs p (record { at = e; left = n; pairs = m })
+      → Rowed bs p (record { at = e; left = n; pairs = m })
   unfolding wholly_row
   made m e n ns fs rest le few o is o' is' inner b =
       record {
-        whole = ok_read (row_at bs m e n) ns rest o;
-        inside = le;
-        parts = nodes_are bs m e n ns rest o ∙ is;
-        few = few;
-        singly = ok_read (row_at bs false e (singles m n)) fs rest o';
-        flat = nodes_are bs false e (singles m n) fs rest o' ∙ is';
-        inner = inner;
-        below = b;
+        opened = record { whole = ok_read (row_at bs m e n) ns rest o; inside = le; parts = nodes_are bs m e n ns rest o ∙ is; below = b };
+        spread = record {
+          few = few;
+          singly = ok_read (row_at bs false e (singles m n)) fs rest o';
+          flat = nodes_are bs false e (singles m n) fs rest o' ∙ is';
+          inner = inner;
+        };
       }
 
   f31 : List ℕ → Out Node
@@ -167,7 +171,7 @@ module _ (bs : List ℕ) (p e s e' : ℕ) (more rest : List ℕ) (t : Node) (is 
   as_list : (n : ℕ) (ns : List Node) (g : List Node → Form Node) → items (reading (offset (length bs)) 31) n more ≡ ok ns rest → knit s e' (g ns) ≡ t
       → parts_of (knit s e' (g ns)) ≡ listed (nodes ns) → flat_of (knit s e' (g ns)) ≡ listed (nodes ns) → inner_of (knit s e' (g ns)) ≡ listed (nodes ns)
       → is_attribute (knit s e' (g ns)) ≡ false → n ≤ items_most
-      → Opened bs p (record { at = e; left = n; pairs = false })
+      → Rowed bs p (record { at = e; left = n; pairs = false })
   as_list n ns g i k q f z a few =
       let row = row_list bs e n more rest ns is i in
       made bs p false e n ns ns rest le few row (sym (listed_nodes ns) ∙ sym q ∙ ap parts_of (k ∙ sym node)) row (sym (listed_nodes ns) ∙ sym f ∙ ap flat_of (k ∙ sym node))
@@ -177,7 +181,7 @@ module _ (bs : List ℕ) (p e s e' : ℕ) (more rest : List ℕ) (t : Node) (is 
       → parts_of (knit s e' g) ≡ paired (node_pairs ps) → flat_of (knit s e' g) ≡ flattened (node_pairs ps) → n ≤ items_most
       → Inner bs false p (inner_row (is_attribute (node_at bs false p)) (record { at = e; left = n; pairs = true }))
       → (is_attribute (node_at bs false p) ≡ true → (q : ℕ) → RowEnded bs true e n q → (wholly bs false q ≡ true) × (node_at bs false q ≡ unwrapped (node_at bs false p)))
-      → Opened bs p (record { at = e; left = n; pairs = true })
+      → Rowed bs p (record { at = e; left = n; pairs = true })
   as_pairs n ps g l i k q f few z b =
       made bs p true e n (each pair_node ps) (in_turn ps) l le few (row_pairs bs e n more l ps is i) (sym (paired_nodes ps) ∙ sym q ∙ ap parts_of (k ∙ sym node))
       (row_flat bs e n more l ps is i) (sym (flattened_nodes ps) ∙ sym f ∙ ap flat_of (k ∙ sym node)) z b
@@ -203,11 +207,11 @@ module _ (bs : List ℕ) (p e s e' : ℕ) (more rest : List ℕ) (t : Node) (is 
       subst (λ b. Inner bs false p (inner_row b (record { at = e; left = n; pairs = true }))) (ap is_attribute (k ∙ sym node))
       (inner_made false (2 * n + 1) (in_turn ps ++ (d ∷ [])) row (ap (λ x. x ++ (d ∷ [])) (sym (flattened_nodes ps)) ∙ ap inner_of (k ∙ sym node)))
 
-  renamed : (r q : Row) → r ≡ q → Opened bs p q → Opened bs p r
-  renamed r q e w = subst (Opened bs p) (sym e) w
+  renamed : (r q : Row) → r ≡ q → Rowed bs p q → Rowed bs p r
+  renamed r q e w = subst (Rowed bs p) (sym e) w
 
   collected : (h : Head) (x : List ℕ) → Headed h x → (f : Form Node) → parts (reading (offset (length bs)) 31) is_string_node h more ≡ ok f rest → knit s e' f ≡ t
-      → Opened bs p (row_from (case_of (erase t)) e (items_in h))
+      → Rowed bs p (row_from (case_of (erase t)) e (items_in h))
   collected (a_leaf l) x w f i k =
       let same : leaf l ≡ f = cc in
       let after : more ≡ rest = cc in
@@ -251,7 +255,7 @@ front bs p h more le o =
 
 pub row_is : (bs : List ℕ) (p : ℕ) (t : Node) (rest : List ℕ) → p ≤ length bs → view_at bs false p ≡ ok t rest
     → (h : Head) × (more : List ℕ) × (opening (drop p bs) ≡ ok h more) × (p + (length (drop p bs) - length more) ≤ length bs)
-    × Opened bs p (row_from (case_of (erase t)) (p + (length (drop p bs) - length more)) (items_in h))
+    × Rowed bs p (row_from (case_of (erase t)) (p + (length (drop p bs) - length more)) (items_in h))
 row_is bs p t rest le e =
     let (f, o, k) = level bs p t rest e in
     let (h, more, i, j) = and_then_ok (opening (drop p bs)) (parts (reading (offset (length bs)) 31) is_string_node) f rest o in
@@ -306,12 +310,12 @@ module _ (bs : List ℕ) (p : ℕ) (le : p ≤ length bs) (h : is_read (view_at 
       apart e = let z : ◌≡◌ {A = ℕ} 0 1 = cc in omega arith
 
   -- whether it is an attribute
-  pub attributed : (r : Option Case) → Cased (drop p bs) r → Attributed bs p (attributes r)
+  pub attributed : (r : Option Case) → Cased (drop p bs) r → Attributed bs p (attributes r) × (is_attribute (node_at bs false p) ≡ attributes r)
   attributed r c =
       let (t, rest, o) = read_ok (view_at bs false p) h in
       let n : node_at bs false p ≡ t = node_is bs false p t rest o in
       let same : is_attribute (node_at bs false p) ≡ attributes r = ap is_attribute n ∙ sym (ap attributes (case_told r c t rest o) ∙ attributes_is t) in
-      record { is = λ e. same ∙ e; same = same; other = λ e. sym (others (node_at bs false p) (same ∙ e)) }
+      (record { is = λ e. same ∙ e; other = λ e. sym (others (node_at bs false p) (same ∙ e)) }, same)
 
   pub case_is : (k : Case) → Cased (drop p bs) (Some k) → k ≡ case_of (erase (node_at bs false p))
   case_is k c =

@@ -18,13 +18,13 @@ use Rattle.resp.proofs.Heads.{Headed, opening_agrees}
 use Rattle.reply.specs.declared.pass.Passed.{Passed}
 use Rattle.reply.specs.Parted.{after_lf}
 use Rattle.reply.specs.Pass.{short, counted, Small, tells, told_count, followed_by, passed_by, passed_of}
-use Rattle.reply.specs.Opened.{row_from, Opened}
+use Rattle.reply.specs.Opened.{row_from}
 use Rattle.reply.specs.Tree.{view, view_at, row_at, is_read, Ended, RowEnded}
 use Rattle.reply.proofs.Rows.{read_ok, read_inside}
 use Rattle.reply.proofs.Views.{level}
 use Rattle.reply.proofs.Grows.{grows, grows_items}
 use Rattle.reply.proofs.PartSteps.{lf_header, lf_some}
-use Rattle.reply.proofs.Opening.{items_in_turn, items_and_one, named_items, front, row_is, case_told}
+use Rattle.reply.proofs.Opening.{items_in_turn, items_and_one, named_items, front, row_is, case_told, Rowed}
 use Rattle.reply.proofs.Bounds.{reply_ends, same_end}
 
 -- any item is passed by some bytes of it
@@ -237,7 +237,7 @@ pass_more bs p q n i m r w some is at sum fits =
 
 -- the row below a whole reply that was passed
 pub row_passed : (bs : List ℕ) (p : ℕ) → p ≤ length bs → is_read (view_at bs false p) ≡ true → (r : Passed) (k : Case) → r ≡ passed_of (drop p bs) → Cased (drop p bs) (Some k)
-    → (p + r.len ≤ length bs) × Opened bs p (row_from k (p + r.len) r.items)
+    → (p + r.len ≤ length bs) × Rowed bs p (row_from k (p + r.len) r.items)
 row_passed bs p le h r k is c =
     let (t, rest, o) = read_ok (view_at bs false p) h in
     let (head, more, i, in', w) = row_is bs p t rest le o in
@@ -248,9 +248,9 @@ row_passed bs p le h r k is c =
     let count : items_in head ≡ r.items = sym (ap (λ p. p.items) passed) in
     let j : k ≡ case_of (erase t) = somes (case_told bs p le h (Some k) c t rest o) in (
       subst (λ z. z ≤ length bs) place in',
-      subst (λ z. Opened bs p (row_from k z r.items)) place
-          (subst (λ n. Opened bs p (row_from k (p + (length (drop p bs) - length more)) n)) count
-          (subst (λ q. Opened bs p (row_from q (p + (length (drop p bs) - length more)) (items_in head))) (sym j) w)),
+      subst (λ z. Rowed bs p (row_from k z r.items)) place
+          (subst (λ n. Rowed bs p (row_from k (p + (length (drop p bs) - length more)) n)) count
+          (subst (λ q. Rowed bs p (row_from q (p + (length (drop p bs) - length more)) (items_in head))) (sym j) w)),
     )
   where
     somes : {a b : Case} → ◌≡◌ {A = Option Case} (Some a) (Some b) → a ≡ b

@@ -40,7 +40,7 @@ unfolding wholly_row
 in_view bs false p k le h a =
     let (t, rest, o) = read_ok (view_at bs false p) h in
     let (hd, more, i, in', w) = row_is bs p t rest le o in
-    let I = w.inner in
+    let I = w.spread.inner in
     in_row bs _ _ _ k I.inside I.whole (subst (Among k) (sym I.parts) a)
 in_view bs true p k le h a =
     let (r, is) = pair_flat bs true p refl h in

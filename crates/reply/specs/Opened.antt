@@ -46,14 +46,16 @@ pub record Opened (bs : List ℕ) (p : ℕ) (r : Row) : Type 0 where
   pub whole : wholly_row bs r.pairs r.at r.left ≡ true
   pub inside : r.at ≤ length bs
   pub parts : nodes_at bs r.pairs r.at r.left ≡ parts_of (node_at bs false p)
-  pub few : r.left ≤ items_most
-  -- the replies of which the row consists
-  pub singly : wholly_row bs false r.at (singles r.pairs r.left) ≡ true
-  pub flat : nodes_at bs false r.at (singles r.pairs r.left) ≡ flat_of (node_at bs false p)
-  pub inner : Inner bs false p (inner_row (is_attribute (node_at bs false p)) r)
   -- an attribute's data begins where its pairs end
   pub below : is_attribute (node_at bs false p) ≡ true → (e : ℕ) → RowEnded bs r.pairs r.at r.left e
       → (wholly bs false e ≡ true) × (node_at bs false e ≡ unwrapped (node_at bs false p))
+
+-- the row with no pair by itself, and the row of all that stands right below the reply at p
+pub record Spread (bs : List ℕ) (p : ℕ) (r : Row) : Type 0 where
+  pub few : r.left ≤ items_most
+  pub singly : wholly_row bs false r.at (singles r.pairs r.left) ≡ true
+  pub flat : nodes_at bs false r.at (singles r.pairs r.left) ≡ flat_of (node_at bs false p)
+  pub inner : Inner bs false p (inner_row (is_attribute (node_at bs false p)) r)
 
 abbrev pub attributes : Option Case → Bool
 attributes None = false
@@ -76,5 +78,4 @@ attributes (Some ServerError) = false
 -- whether the reply at p is an attribute
 pub record Attributed (bs : List ℕ) (p : ℕ) (r : Bool) : Type 0 where
   pub is : r ≡ true → is_attribute (node_at bs false p) ≡ true
-  pub same : is_attribute (node_at bs false p) ≡ r
   pub other : r ≡ false → node_at bs false p ≡ unwrapped (node_at bs false p)

@@ -1,7 +1,8 @@
 ghost use Rattle.std.specs.Prelude.{◌≡◌, ◌≤◌, true, false, length};
 ghost use Rattle.resp.specs.Limits.{items_most};
-ghost use Rattle.reply.specs.Opened.{Attributed, Opened, attributes, row_from, singles};
-ghost use Rattle.reply.specs.Tree.{wholly};
+ghost use Rattle.reply.specs.Opened.{Attributed, Opened, Spread, attributes, row_from, singles};
+ghost use Rattle.reply.specs.Parts.{is_attribute};
+ghost use Rattle.reply.specs.Tree.{node_at, wholly};
 
 use crate::pass::{Passed, pass};
 use resp::{Case, case_of};
@@ -39,7 +40,8 @@ fn row_from(case: Case, at: usize, items: usize) -> Row
 
 /// The row right below the whole reply at `at`.
 pub(crate) fn open_row(bytes: &[u8], at: usize) -> Row
-    ensures { wholly bytes.now false at ≡ true → Opened bytes.now at result }
+    ensures opened { wholly bytes.now false at ≡ true → Opened bytes.now at result }
+    ensures spread { wholly bytes.now false at ≡ true → Spread bytes.now at result }
 {
     let end = bytes.len();
     if at > end {
@@ -77,7 +79,8 @@ fn is_attribute_case(case: Option<Case>) -> bool
 
 /// Whether the whole reply at `at` is an attribute.
 pub(crate) fn is_attribute(bytes: &[u8], at: usize) -> bool
-    ensures { at ≤ length bytes.now → wholly bytes.now false at ≡ true → Attributed bytes.now at result }
+    ensures attributed { at ≤ length bytes.now → wholly bytes.now false at ≡ true → Attributed bytes.now at result }
+    ensures same { at ≤ length bytes.now → wholly bytes.now false at ≡ true → is_attribute (node_at bytes.now false at) ≡ result }
 {
     if at > bytes.len() {
         return false;

@@ -1,4 +1,4 @@
-use Rattle.std.proofs.Common.{sym, subst}
+use Rattle.std.proofs.Common.{sym, subst, ◌∙◌}
 use Rattle.std.proofs.lemmas.List.{take_rest}
 use Rattle.resp.specs.Cases.{Cased}
 use Rattle.reply.specs.Opened.{Attributed}
@@ -8,7 +8,11 @@ use Rattle.reply.proofs.open.is_attribute.Goals as goal
 
 pub returns : goal.returns
 unfolding wholly
-returns c le h =
+returns c =
     let bs = c.args.bytes.now in
     let p = c.args.at in
-    subst (Attributed bs p) (sym c.is_attribute_case.ensures) (attributed bs p le h c.case_of.result (subst (λ l. Cased l c.case_of.result) (take_rest bs p) c.case_of.ensures.tree))
+    let cased = subst (λ l. Cased l c.case_of.result) (take_rest bs p) c.case_of.ensures.tree in
+    record {
+      attributed = λ le h. subst (Attributed bs p) (sym c.is_attribute_case.ensures) (attributed bs p le h c.case_of.result cased).0;
+      same = λ le h. (attributed bs p le h c.case_of.result cased).1 ∙ sym c.is_attribute_case.ensures;
+    }

@@ -16,8 +16,8 @@ invariant_of-result c =
     let bs = c.args.self.bytes.now in
     let p = c.args.self.at in
     let one = single bs c.args.self.pair p c.if-self.false c.args.self.whole in
-    let is = (c.is_attribute.ensures c.args.self.inside one.0).same ∙ c.if-is_attribute.true in
-    let w = subst (λ b. Inner bs false p (inner_row b c.open_row-at.result)) is (c.open_row-at.ensures one.0).inner in
+    let is = c.is_attribute.ensures.same c.args.self.inside one.0 ∙ c.if-is_attribute.true in
+    let w = subst (λ b. Inner bs false p (inner_row b c.open_row-at.result)) is (c.open_row-at.ensures.spread one.0).inner in
     record { whole = w.whole; inside = w.inside }
 
 pub returns-then-is_attribute : goal.returns-then-is_attribute
@@ -26,8 +26,8 @@ returns-then-is_attribute c =
     let bs = c.args.self.bytes.now in
     let p = c.args.self.at in
     let one = single bs c.args.self.pair p c.if-self.false c.args.self.whole in
-    let is = (c.is_attribute.ensures c.args.self.inside one.0).same ∙ c.if-is_attribute.true in
-    let w = subst (λ b. Inner bs false p (inner_row b c.open_row-at.result)) is (c.open_row-at.ensures one.0).inner in
+    let is = c.is_attribute.ensures.same c.args.self.inside one.0 ∙ c.if-is_attribute.true in
+    let w = subst (λ b. Inner bs false p (inner_row b c.open_row-at.result)) is (c.open_row-at.ensures.spread one.0).inner in
     record { trees = w.parts ∙ ap inner_of one.1; bytes = refl }
 
 pub invariant_of-result-2 : goal.invariant_of-result-2
@@ -35,7 +35,7 @@ invariant_of-result-2 c =
     let bs = c.args.self.bytes.now in
     let p = c.args.self.at in
     let one = single bs c.args.self.pair p c.if-self.false c.args.self.whole in
-    let w = c.open_row-at.ensures one.0 in
+    let w = c.open_row-at.ensures.opened one.0 in
     record { whole = w.whole; inside = w.inside }
 
 pub returns : goal.returns
@@ -44,6 +44,6 @@ returns c =
     let bs = c.args.self.bytes.now in
     let p = c.args.self.at in
     let one = single bs c.args.self.pair p c.if-self.false c.args.self.whole in
-    let is = (c.is_attribute.ensures c.args.self.inside one.0).same ∙ c.if-is_attribute.false in
-    let w = subst (λ b. Inner bs false p (inner_row b c.open_row-at.result)) is (c.open_row-at.ensures one.0).inner in
+    let is = c.is_attribute.ensures.same c.args.self.inside one.0 ∙ c.if-is_attribute.false in
+    let w = subst (λ b. Inner bs false p (inner_row b c.open_row-at.result)) is (c.open_row-at.ensures.spread one.0).inner in
     record { trees = w.parts ∙ ap inner_of one.1; bytes = refl }

@@ -16,7 +16,7 @@ returns-then-self c = record { trees = (pair_row c.args.self.bytes.now c.args.se
 pub invariant_of-result-2 : goal.invariant_of-result-2
 invariant_of-result-2 c =
     let bs = c.args.self.bytes.now in
-    let w = c.open_row-at.ensures (single bs c.args.self.pair c.args.self.at c.if-self.false c.args.self.whole).0 in
+    let w = c.open_row-at.ensures.opened (single bs c.args.self.pair c.args.self.at c.if-self.false c.args.self.whole).0 in
     record { whole = w.whole; inside = w.inside }
 
 pub returns : goal.returns
@@ -24,4 +24,4 @@ unfolding node_of nodes_of
 returns c =
     let bs = c.args.self.bytes.now in
     let one = single bs c.args.self.pair c.args.self.at c.if-self.false c.args.self.whole in
-    record { trees = (c.open_row-at.ensures one.0).parts ∙ ap parts_of one.1; bytes = refl }
+    record { trees = (c.open_row-at.ensures.opened one.0).parts ∙ ap parts_of one.1; bytes = refl }

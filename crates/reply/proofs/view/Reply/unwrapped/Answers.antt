@@ -19,7 +19,7 @@ returns-then-self c =
         | then-self-via-then-self w ↦ bare bs c.args.self.pair c.args.self.at w.if-self.true c.args.self.whole
         | then-self-via-else-self+then-not-is_attribute w ↦
             let one = single bs c.args.self.pair c.args.self.at w.if-self.false c.args.self.whole in
-            sym one.1 ∙ (w.is_attribute.ensures c.args.self.inside one.0).other w.if-not-is_attribute.true ∙ ap unwrapped one.1
+            sym one.1 ∙ (w.is_attribute.ensures.attributed c.args.self.inside one.0).other w.if-not-is_attribute.true ∙ ap unwrapped one.1
       ];
       bytes = refl;
     }
@@ -28,9 +28,9 @@ pub invariant_of-result : goal.invariant_of-result
 invariant_of-result c =
     let bs = c.args.self.bytes.now in
     let one = single bs c.args.self.pair c.args.self.at c.if-self.false c.args.self.whole in
-    let row = c.open_row-at.ensures one.0 in
+    let row = c.open_row-at.ensures.opened one.0 in
     let end = c.row_end-end.ensures row.inside row.whole in
-    let b = row.below ((c.is_attribute.ensures c.args.self.inside one.0).is c.if-not-is_attribute.false) c.row_end-end.result end in
+    let b = row.below ((c.is_attribute.ensures.attributed c.args.self.inside one.0).is c.if-not-is_attribute.false) c.row_end-end.result end in
     record { whole = b.0; inside = end.inside }
 
 pub returns : goal.returns
@@ -38,7 +38,7 @@ unfolding node_of
 returns c =
     let bs = c.args.self.bytes.now in
     let one = single bs c.args.self.pair c.args.self.at c.if-self.false c.args.self.whole in
-    let row = c.open_row-at.ensures one.0 in
+    let row = c.open_row-at.ensures.opened one.0 in
     let end = c.row_end-end.ensures row.inside row.whole in
-    let b = row.below ((c.is_attribute.ensures c.args.self.inside one.0).is c.if-not-is_attribute.false) c.row_end-end.result end in
+    let b = row.below ((c.is_attribute.ensures.attributed c.args.self.inside one.0).is c.if-not-is_attribute.false) c.row_end-end.result end in
     record { tree = b.1 ∙ ap unwrapped one.1; bytes = refl }
