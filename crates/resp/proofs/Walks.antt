@@ -187,7 +187,7 @@ push_some bs d at v t is =
     go zero (b ∷ l) h rest o e = absurd (clash o)
     go (suc d) l h rest o e = let (x, split, w) = opening_agrees.sound l h rest o in counted h x w e
 
--- what `namedEnd` answered
+-- what `named_end` answered
 apart : (end : ℕ) (f : WireFault) → ◌≡◌ {A = Result ℕ WireFault} (Ok end) (Err f) → ⊥
 apart end f e = let z : ◌≡◌ {A = ℕ} 0 1 = cc in omega arith
 

@@ -28,7 +28,7 @@ scan s (suc due) lo hi (b ∷ l) = cond (is_in_range lo hi b) (scan s due 128 19
 abbrev pub ill_formed : List ℕ → Option (List ℕ)
 ill_formed c = scan c 0 128 191 c
 
--- the answer of the code: the place of what `illFormed` leaves
+-- the answer of the code: the place of what `ill_formed` leaves
 abbrev pub Located : List ℕ → Option (List ℕ) → Option ℕ → Type 0
 Located c None None = Unit {0}
 Located c None (Some i) = ⊥

@@ -2,7 +2,7 @@
 use Rattle.std.specs.Prelude.{◌≡◌, ℕ, ◌<◌, List, [], ◌∷◌, ◌++◌, length, ◌≢◌}
 use Rattle.std.specs.Int.{IsInRange}
 
--- A row of the table each, in its order: the bytes of one sequence. `In lo hi b` says that b is from lo to hi.
+-- A row of the table each, in its order: the bytes of one sequence. `IsInRange lo hi b` says that b is from lo to hi.
 pub data Row : List ℕ → Type 0 where
   row1 : {a : ℕ} → IsInRange 0 127 a → Row (a ∷ [])
   row2 : {a b : ℕ} → IsInRange 194 223 a → IsInRange 128 191 b → Row (a ∷ b ∷ [])
