@@ -1,5 +1,11 @@
 //! A reply and the items in it, in the order of the wire, each with its place.
 
+ghost use Rattle.std.specs.Prelude.{◌≡◌, List, ℕ};
+ghost use Rattle.resp.specs.Node.{Node};
+ghost use Rattle.resp.specs.Out.{ok};
+ghost use Rattle.station.specs.declared.listing.Stop.TheVariants.{Memory, Wire};
+ghost use Rattle.station.specs.Listing.{Noted, end_at, tree_at};
+
 use resp::{Case, Opening, WireFault, case_of, open_item};
 use std::alloc::{AllocError, AllocFailed};
 
@@ -22,20 +28,37 @@ pub enum Stop {
 }
 
 impl From<WireFault> for Stop {
+    ghost from_gives = { λ f r. r ≡ Wire f };
+
     fn from(fault: WireFault) -> Stop {
         Stop::Wire(fault)
     }
 }
 
 impl From<AllocError> for Stop {
+    ghost from_gives = { λ _ r. r ≡ Memory };
+
     fn from(_error: AllocError) -> Stop {
         Stop::Memory
     }
 }
 
 impl<T: Drop> From<AllocFailed<T>> for Stop {
+    ghost from_gives = { λ _ r. r ≡ Memory };
+
     fn from(_refused: AllocFailed<T>) -> Stop {
         Stop::Memory
+    }
+}
+
+/// Sets where the reply of a note ends.
+fn set_end(notes: &mut Vec<Note>, index: usize, end: usize)
+    ensures { notes.new.items ≡ end_at index end notes.old.items }
+{
+    if index < notes.len() {
+        let mut note = notes[index];
+        note.end = end;
+        notes[index] = note;
     }
 }
 
@@ -45,7 +68,9 @@ pub fn note_reply(
     at: usize,
     level: usize,
     notes: &mut Vec<Note>,
-) -> Result<usize, Stop> {
+) -> Result<usize, Stop>
+    ensures { (t : Node) (rest : List ℕ) → tree_at bytes.now at level ≡ ok t rest → Noted bytes.now level t rest notes.old.items notes.new.items result }
+{
     if at >= bytes.len() || level >= resp::DEEPEST {
         return Err(Stop::Deep);
     }
@@ -70,8 +95,6 @@ pub fn note_reply(
     for _item in 0..items {
         end = note_reply(bytes, end, level + 1, notes)?;
     }
-    if let Some(note) = notes.get_mut(index) {
-        note.end = end;
-    }
+    set_end(notes, index, end);
     Ok(end)
 }

@@ -4,6 +4,7 @@
 
 mod listing;
 mod report;
+mod survey;
 
 use anyhow::anyhow;
 use std::io::Read;
@@ -23,5 +24,11 @@ fn run(rt: &HostRuntime) -> anyhow::Result<()> {
     if bytes.len() > RECORDING_MOST {
         return Err(anyhow!("the recording has more than 16 MiB: cut it between two replies"));
     }
-    report::recording(rt, bytes.as_slice())
+    if bytes.is_empty() {
+        println!(rt; "the recording is empty")?;
+        return Ok(());
+    }
+    let survey = report::recording(rt, bytes.as_slice())?;
+    println!(rt; "{survey}")?;
+    Ok(())
 }

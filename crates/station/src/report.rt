@@ -1,6 +1,12 @@
 //! The report of a recording, in plain words.
 
+ghost use Rattle.std.specs.Prelude.{◌≡◌, ℕ, ◌+◌, ◌^◌, ◌<◌, drop, IfOk, Some, Ok};
+ghost use Rattle.resp.specs.Answer.{answer};
+ghost use Rattle.station.specs.Listing.{Listed};
+ghost use Rattle.station.specs.Surveyed.{Surveyed};
+
 use crate::listing::{Note, note_reply};
+use crate::survey::Survey;
 use anyhow::anyhow;
 use resp::{Case, WireFault, walk};
 use std::fmt;
@@ -128,14 +134,16 @@ fn print_note(rt: &HostRuntime, bytes: &[u8], note: &Note) -> anyhow::Result<()>
     Ok(())
 }
 
-/// The lines of one whole reply.
+/// The lines of one whole reply, which are those of its notes.
 fn print_reply(
     rt: &HostRuntime,
     bytes: &[u8],
     at: usize,
     number: u64,
     notes: &mut Vec<Note>,
-) -> anyhow::Result<()> {
+) -> anyhow::Result<()>
+    ensures { IfOk result (λ _. (n : ℕ) → answer (drop at bytes.now) ≡ Ok n → Listed bytes.now at n notes.new.items) }
+{
     notes.clear();
     let listed = note_reply(bytes, at, 0, notes);
     println!(rt; "reply {number}")?;
@@ -148,29 +156,25 @@ fn print_reply(
     }
 }
 
-/// The last lines: how many replies there were, and why there are no more.
-fn print_end(
-    rt: &HostRuntime,
-    replies: u64,
-    at: usize,
-    fault: Option<WireFault>,
-) -> anyhow::Result<()> {
-    println!(rt; "replies: {replies}, bytes: {at}")?;
-    if let Some(fault) = fault {
-        let number = fault.reason.number();
-        let name = fault.reason.name();
-        let place = at.saturating_add(fault.place);
-        println!(rt; "stopped: fault {number}, {name}, at {place}")?;
+/// Where the bytes from `at` on begin with no whole reply: the fault, with its place in the recording.
+fn stopped(replies: u64, at: usize, fault: WireFault) -> Survey
+    requires { at + fault.place < 2 ^ 64 }
+    ensures { result ≡ record { replies = replies; bytes = at; fault = Some (record fault { place = at + fault.place }) } }
+{
+    Survey {
+        replies,
+        bytes: at,
+        fault: Some(WireFault {
+            reason: fault.reason,
+            place: at + fault.place,
+        }),
     }
-    Ok(())
 }
 
-/// Reads a recording to its end or its first fault.
-pub fn recording(rt: &HostRuntime, bytes: &[u8]) -> anyhow::Result<()> {
-    if bytes.is_empty() {
-        println!(rt; "the recording is empty")?;
-        return Ok(());
-    }
+/// Lists the whole replies of a recording, to its end or its first fault.
+pub fn recording(rt: &HostRuntime, bytes: &[u8]) -> anyhow::Result<Survey>
+    ensures { IfOk result (λ s. Surveyed bytes.now s) }
+{
     let mut notes = Vec::new(rt.alloc());
     let mut at = 0;
     let mut replies = 0u64;
@@ -181,8 +185,12 @@ pub fn recording(rt: &HostRuntime, bytes: &[u8]) -> anyhow::Result<()> {
                 print_reply(rt, bytes, at, replies, &mut notes)?;
                 at += length;
             }
-            Err(fault) => return print_end(rt, replies, at, Some(fault)),
+            Err(fault) => return Ok(stopped(replies, at, fault)),
         }
     }
-    print_end(rt, replies, at, None)
+    Ok(Survey {
+        replies,
+        bytes: at,
+        fault: None,
+    })
 }

@@ -1,0 +1,4 @@
+mod Ends
+mod Notes
+mod Steps
+mod Walked
