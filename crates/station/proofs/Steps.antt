@@ -1,21 +1,22 @@
 -- The loop over the replies right below one: what is noted so far, and what is left to read.
-use Rattle.std.proofs.Common.{◌≡◌, ℕ, zero, suc, ◌+◌, ◌-◌, ◌<◌, ◌≤◌, List, [], ◌∷◌, ◌++◌, length, drop, Some, Ok, Err, Option, Result, sym, refl, ap, ◌∙◌, append_assoc, append-nil, arith}
-use Rattle.std.proofs.lemmas.List.{drop_at, drop-drop, length-drop, length-append}
+use Rattle.std.proofs.Common.{◌≡◌, ℕ, zero, suc, ◌+◌, ◌-◌, ◌<◌, ◌≤◌, List, [], ◌∷◌, ◌++◌, length, drop, Some, Ok, Err, Option, Result, sym, ap, ◌∙◌, append_assoc, append-nil, ⊎_elim, arith}
+use Rattle.std.proofs.lemmas.List.{drop_all, length-drop, length-append}
+use Rattle.std.proofs.lemmas.Bool.{cases_lt}
 use Rattle.resp.specs.declared.case.Case.{Case}
 use Rattle.resp.specs.declared.opening.Opening.{Opening}
 use Rattle.resp.specs.declared.fault.WireFault.{WireFault}
 use Rattle.resp.specs.Limits.{deepest}
-use Rattle.resp.specs.Out.{Out, ok, fault}
+use Rattle.resp.specs.Out.{Out, ok}
 use Rattle.resp.specs.Reading.{items}
 use Rattle.resp.specs.Node.{Node, erase, reading, offset}
 use Rattle.resp.specs.Cases.{case_of, Cased}
 use Rattle.resp.specs.Told.{items_in, is_push, opened, opened_as}
 use Rattle.resp.proofs.Outs.{clash, and_then_ok, map_out_ok}
-use Rattle.resp.specs.Answer.{answer, answered, located}
-use Rattle.resp.proofs.Unique.{read_plainly, plainly_read, reads_a_front}
+use Rattle.resp.specs.Answer.{answer}
+use Rattle.resp.proofs.Unique.{reads_a_front}
 use Rattle.reply.proofs.Grows.{grows}
 use Rattle.reply.proofs.Opening.{front, case_told}
-use Rattle.reply.proofs.Rows.{ok_read}
+use Rattle.reply.proofs.Rows.{ok_read, walk_ended}
 use Rattle.station.specs.declared.listing.Note.{Note}
 use Rattle.station.specs.Listing.{noted, tree_at, Noted, end_at}
 use Rattle.station.proofs.Ends.{end_after}
@@ -194,18 +195,7 @@ finish bs p level t rest old now new n i end index w le at set =
 -- where the walk finds a whole reply, a tree is read
 pub read_there : (bs : List ℕ) (p n : ℕ) → answer (drop p bs) ≡ Ok n → (t : Node) × (tree_at bs p 0 ≡ ok t (drop (p + n) bs))
 unfolding tree_at
-read_there bs p n e = go (located l) refl e
+read_there bs p n e = ⊎_elim (λ past. absurd (none (sym (ap answer (drop_all p bs (omega arith))) ∙ e))) (λ le. let w = walk_ended bs p n le e in (w.tree, w.reads)) (cases_lt (length bs) p)
   where
-    l : List ℕ
-    l = drop p bs
-
-    go : (o : Out Node) → located l ≡ o → answered l o ≡ Ok n → (t : Node) × (tree_at bs p 0 ≡ ok t (drop (p + n) bs))
-    go (fault k at) o is = absurd (let z : ◌≡◌ {A = ℕ} 0 1 = cc in omega arith)
-    go (ok u rest) o is =
-        let (t, q, same) = plainly_read (offset (length bs)) deepest l (erase u) rest (read_plainly (offset (length l)) deepest l u rest o) in
-        let (x, split, some, w) = reads_a_front (offset (length l)) deepest l u rest o in
-        let m : length l - length rest ≡ n = cc in
-        let len : length l ≡ length x + length rest = ap length split ∙ length-append x rest in
-        let size : length x ≡ n = omega arith in
-        let after : rest ≡ drop (p + n) bs = sym (drop_at x rest n size) ∙ ap (drop n) (sym split) ∙ drop-drop n p bs in
-        (t, q ∙ ap (ok t) after)
+    none : answer [] ≡ Ok n → ⊥
+    none o = let z : ◌≡◌ {A = ℕ} 0 1 = cc in omega arith

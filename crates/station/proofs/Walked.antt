@@ -4,10 +4,8 @@ use Rattle.std.proofs.Math.Seq.{take-add}
 use Rattle.std.proofs.lemmas.List.{length-append, length-drop, drop_all}
 use Rattle.resp.specs.declared.fault.WireFault.{WireFault}
 use Rattle.resp.specs.Limits.{deepest}
-use Rattle.resp.specs.Out.{Out, ok, fault}
-use Rattle.resp.specs.Node.{Node}
 use Rattle.resp.specs.Grammar.{Each, Whole, none, more}
-use Rattle.resp.specs.Answer.{answer, answered, located, Found}
+use Rattle.resp.specs.Answer.{answer, Found}
 use Rattle.station.specs.Surveyed.{Replies, Surveyed}
 
 -- the first n bytes are k replies; each has a byte at least
@@ -39,14 +37,6 @@ one_more bs k n m j w f small is =
       few = omega (arith, w.few);
       replies = (rs ++ (r ∷ []), subst (Each (Whole deepest) (rs ++ (r ∷ []))) (sym (take-add n m bs)) (each_more rs (take n bs) r (take m (drop n bs)) e whole), omega arith);
     }
-
--- a fault has its place among the bytes
-placed : (l : List ℕ) (o : Out Node) (f : WireFault) → answered l o ≡ Err f → f.place ≤ length l
-placed l (ok t rest) f e = absurd (let z : ◌≡◌ {A = ℕ} 0 1 = cc in omega arith)
-placed l (fault k at) f e = let is : length l - length at ≡ f.place = cc in omega arith
-
-pub place_inside : (l : List ℕ) (f : WireFault) → answer l ≡ Err f → f.place ≤ length l
-place_inside l f e = placed l (located l) f e
 
 pub all_walked : (bs : List ℕ) (k n : ℕ) → Walked bs k n → length bs ≤ n → Surveyed bs (record { replies = k; bytes = n; fault = None })
 all_walked bs k n w h = record { inside = w.inside; replies = w.replies; stopped = drop_all n bs h }

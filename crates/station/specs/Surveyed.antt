@@ -7,7 +7,7 @@ use Rattle.resp.specs.Grammar.{Whole, Each}
 use Rattle.resp.specs.Answer.{answer}
 use Rattle.station.specs.declared.survey.Survey.{Survey}
 
--- n bytes are k whole replies, one after another
+-- these bytes are k whole replies, one after another
 abbrev pub Replies : ℕ → List ℕ → Type 0
 Replies k bs = (rs : List Reply) × Each (Whole deepest) rs bs × (k ≡ length rs)
 
