@@ -1,80 +1,69 @@
 -- The search for a place in a row.
-use Rattle.std.proofs.Common.{◌≡◌, ℕ, ◌<◌, ◌≤◌, Bool, true, cond, List, [], ◌∷◌, drop, None, sym, refl, ap, ◌∙◌, subst, arith}
-use Rattle.std.proofs.lemmas.Bool.{ne_eqb}
-use Rattle.resp.specs.Out.{ok}
+use Rattle.std.proofs.Common.{◌≡◌, ℕ, ◌<◌, ◌≤◌, [], drop, None, sym, refl, ap, ◌∙◌, subst}
 use Rattle.resp.specs.Node.{Node}
-use Rattle.resp.proofs.Outs.{and_then_ok}
 use Rattle.reply.specs.declared.spot.Spot.{Spot}
 use Rattle.reply.specs.declared.view.Items.{Items}
+use Rattle.reply.specs.declared.view.Reply.{Reply}
 use Rattle.reply.specs.Inside.{Among, first, later}
-use Rattle.reply.specs.Find.{or_else, find, find_among}
-use Rattle.reply.specs.Tree.{view_at, row_at, is_read, node_at, nodes_at, wholly_row, Ended}
-use Rattle.reply.specs.View.{nodes_of, first_of, nil_node}
-use Rattle.reply.proofs.Rows.{read_ok, node_is, nodes_are}
+use Rattle.reply.specs.Find.{Narrows, or_else, find, find_among}
+use Rattle.reply.specs.Rows.{Passes}
+use Rattle.reply.specs.Tree.{nodes_at, wholly_row, Ended}
+use Rattle.reply.specs.View.{node_of, nodes_of}
+use Rattle.reply.proofs.Rows.{nodes_are}
 use Rattle.reply.proofs.Finds.{or_none}
 use Rattle.reply.proofs.Bounds.{skipped, none_before}
 
--- a row of one
-one_row : (bs : List ℕ) (m : Bool) (p n : ℕ) → n ≡ 1 → is_read (row_at bs m p n) ≡ true → nodes_at bs m p n ≡ node_at bs m p ∷ []
-one_row bs m p n one h =
-    let (ns, rest, o) = read_ok (row_at bs m p 1) (subst (λ k. is_read (row_at bs m p k) ≡ true) one h) in
-    let (a, more, i, q) = and_then_ok (view_at bs m p) (λ a more. ok (a ∷ []) more) ns rest o in
-    let same : a ∷ [] ≡ ns = cc in
-    ap (nodes_at bs m p) one ∙ nodes_are bs m p 1 ns rest o ∙ sym same ∙ ap (λ n. n ∷ []) (sym (node_is bs m p a more i))
-
-first_is : (i : Items) → 0 < i.left → first_of i ≡ node_at i.bytes.now i.pairs i.at
-unfolding first_of
-first_is i some = ap (λ t. cond t nil_node (node_at i.bytes.now i.pairs i.at)) (ne_eqb i.left 0 (omega arith))
-
--- the only one left
-pub only_one : (i : Items) → i.left ≡ 1 → nodes_of i ≡ first_of i ∷ []
-unfolding nodes_of wholly_row
-only_one i one = one_row i.bytes.now i.pairs i.at i.left one i.whole ∙ ap (λ n. n ∷ []) (sym (first_is i (omega arith)))
-
+-- nothing is left
 pub no_more : (i : Items) → i.left ≡ 0 → nodes_of i ≡ []
 unfolding nodes_of
 no_more i none = ap (nodes_at i.bytes.now i.pairs i.at) none ∙ nodes_are i.bytes.now i.pairs i.at 0 [] (drop i.at i.bytes.now) refl
 
--- what was to be found among some and is to be found among others
-pub record Searching (s : Spot) (i here : Items) : Type 0 where
-  pub some : 0 < here.left
+-- what was to be found among some is to be found in the one at hand or among those after it
+pub record Searching (s : Spot) (i : Items) (here : Reply) (others : Items) : Type 0 where
   pub bytes : here.bytes ≡ i.bytes
-  pub holds : find_among s (nodes_of i) ≡ find_among s (nodes_of here)
-  pub among : (k : Node) → Among k (nodes_of here) → Among k (nodes_of i)
+  pub stays : others.bytes ≡ i.bytes
+  pub ends : Ended here.bytes.now here.pair here.at others.at
+  pub holds : find_among s (nodes_of i) ≡ or_else (find s (node_of here)) (find_among s (nodes_of others))
+  pub one : Among (node_of here) (nodes_of i)
+  pub among : (k : Node) → Among k (nodes_of others) → Among k (nodes_of i)
 
-pub all_of_them : (s : Spot) (i : Items) → 0 < i.left → Searching s i i
-all_of_them s i some = record { some = some; bytes = refl; holds = refl; among = λ k a. a }
-
--- the first is passed by
-pub passed_by_lem : (s : Spot) (i here next : Items) → Searching s i here → 0 < next.left → next.bytes ≡ here.bytes → nodes_of here ≡ first_of here ∷ nodes_of next
-    → Ended here.bytes.now here.pairs here.at next.at → next.at ≤ s.at → Searching s i next
-passed_by_lem s i here next w some same items end past =
-    let gone = ap (find s) (first_is here w.some) ∙ skipped here.bytes.now here.pairs here.at next.at s here.inside end past in
+pub at_first : (s : Spot) (i : Items) (here : Reply) (others : Items) → Passes i here others → Searching s i here others
+at_first s i here others p =
     record {
-      some = some;
-      bytes = same ∙ w.bytes;
-      holds = w.holds ∙ ap (find_among s) items ∙ ap (λ o. or_else o (find_among s (nodes_of next))) gone;
-      among = λ k a. w.among k (subst (Among k) (sym items) (later a));
+      bytes = p.bytes;
+      stays = p.stays;
+      ends = p.ends;
+      holds = ap (find_among s) p.items;
+      one = subst (Among (node_of here)) (sym p.items) first;
+      among = λ k a. subst (Among k) (sym p.items) (later a);
     }
 
--- it is in the first or nowhere
-pub record InFirst (s : Spot) (i here : Items) : Type 0 where
-  pub among : Among (first_of here) (nodes_of i)
-  pub holds : find_among s (nodes_of i) ≡ find s (first_of here)
+-- the one at hand is passed by
+gone : (s : Spot) (here : Reply) (e : ℕ) → Ended here.bytes.now here.pair here.at e → e ≤ s.at → find s (node_of here) ≡ None
+unfolding node_of
+gone s here e end past = skipped here.bytes.now here.pair here.at e s here.inside end past
 
-begins_before : (s : Spot) (next : Items) → s.at < next.at → find_among s (nodes_of next) ≡ None
+pub at_next : (s : Spot) (i : Items) (here : Reply) (rest : Items) (next : Reply) (others : Items) → Searching s i here rest → rest.at ≤ s.at → Passes rest next others
+    → Searching s i next others
+at_next s i here rest next others w past p =
+    record {
+      bytes = p.bytes ∙ w.stays;
+      stays = p.stays ∙ w.stays;
+      ends = p.ends;
+      holds = w.holds ∙ ap (λ o. or_else o (find_among s (nodes_of rest))) (gone s here rest.at w.ends past) ∙ ap (find_among s) p.items;
+      one = w.among (node_of next) (subst (Among (node_of next)) (sym p.items) first);
+      among = λ k a. w.among k (subst (Among k) (sym p.items) (later a));
+    }
+
+narrows : (s : Spot) (i : Items) (here : Reply) (rest : Items) → Searching s i here rest → find_among s (nodes_of rest) ≡ None → Narrows s i here
+narrows s i here rest w none = record { among = w.one; holds = w.holds ∙ ap (or_else (find s (node_of here))) none ∙ or_none (find s (node_of here)); bytes = w.bytes }
+
+pub at_last : (s : Spot) (i : Items) (here : Reply) (rest : Items) → Searching s i here rest → nodes_of rest ≡ [] → Narrows s i here
+at_last s i here rest w none = narrows s i here rest w (ap (find_among s) none)
+
+begins_before : (s : Spot) (rest : Items) → s.at < rest.at → find_among s (nodes_of rest) ≡ None
 unfolding nodes_of wholly_row
-begins_before s next early = none_before next.bytes.now next.pairs next.at next.left s next.inside next.whole early
+begins_before s rest early = none_before rest.bytes.now rest.pairs rest.at rest.left s rest.inside rest.whole early
 
-from_first : (s : Spot) (i here : Items) (ns : List Node) → Searching s i here → nodes_of here ≡ first_of here ∷ ns → find_among s ns ≡ None → InFirst s i here
-from_first s i here ns w items none =
-    record {
-      among = w.among (first_of here) (subst (Among (first_of here)) (sym items) first);
-      holds = w.holds ∙ ap (find_among s) items ∙ ap (or_else (find s (first_of here))) none ∙ or_none (find s (first_of here));
-    }
-
-pub stopped_before : (s : Spot) (i here next : Items) → Searching s i here → nodes_of here ≡ first_of here ∷ nodes_of next → s.at < next.at → InFirst s i here
-stopped_before s i here next w items early = from_first s i here (nodes_of next) w items (begins_before s next early)
-
-pub at_the_last : (s : Spot) (i here : Items) → Searching s i here → here.left ≤ 1 → InFirst s i here
-at_the_last s i here w le = let some = w.some in from_first s i here [] w (only_one here (omega arith)) refl
+pub stopped : (s : Spot) (i : Items) (here : Reply) (rest : Items) → Searching s i here rest → s.at < rest.at → Narrows s i here
+stopped s i here rest w early = narrows s i here rest w (begins_before s rest early)

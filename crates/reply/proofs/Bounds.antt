@@ -86,6 +86,16 @@ row_length bs m p (suc n) ns rest le o =
     let x = E.after in
     omega (arith, row_length bs m E.end n as' rest E.inside (ap (items f n) (sym E.is) ∙ r))
 
+-- so does a row
+pub row_ends : (bs : List ℕ) (m : Bool) (p n : ℕ) (ns : List Node) (rest : List ℕ) → p ≤ length bs → row_at bs m p n ≡ ok ns rest → (e : ℕ) × (e ≤ length bs) × (rest ≡ drop e bs)
+row_ends bs m p zero ns rest le o = let same : drop p bs ≡ rest = cc in (p, le, sym same)
+row_ends bs m p (suc n) ns rest le o =
+    let f = view (offset (length bs)) m in
+    let (a, more, o1, q) = and_then_ok (f (drop p bs)) _ ns rest o in
+    let (as', r, s) = map_out_ok (items f n more) _ ns rest q in
+    let E = view_ends bs m p a more le o1 in
+    row_ends bs m E.end n as' rest E.inside (ap (items f n) (sym E.is) ∙ r)
+
 pub row_member : (bs : List ℕ) (m : Bool) (p n : ℕ) (ns : List Node) (rest : List ℕ) (k : Node) → p ≤ length bs → row_at bs m p n ≡ ok ns rest → Among k ns → Member bs m p rest k
 row_member bs m p zero ns rest k le o mem = let none : [] ≡ ns = cc in absurd (none_among k ns mem none)
 row_member bs m p (suc n) ns rest k le o mem =

@@ -1,6 +1,7 @@
 -- What is found in a tree.
 use Rattle.std.proofs.Common.{◌≡◌, ℕ, suc, ◌+◌, ◌<◌, ◌≤◌, Bool, true, false, cond, not, ◌&&◌, eqb, List, [], ◌∷◌, ◌++◌, Some, None, Option, sym, refl, ap, ◌∙◌, subst, arith}
 use Rattle.std.proofs.lemmas.Bool.{and_parts, eqb-true, eq-eqb}
+use Rattle.std.specs.Bool.{beq}
 use Rattle.resp.specs.Node.{Node, OneAt, ArrayAt, SetAt, PushAt, MapAt, AttributeAt, PairAt, Nodes, no_node, node_then, NodePairs, no_nodes, nodes_then}
 use Rattle.reply.specs.declared.spot.Spot.{Spot}
 use Rattle.reply.specs.Parts.{spot_of, pair_node, listed, paired, flattened, inner_of}
@@ -209,3 +210,17 @@ among_size _ _ (later {n = n} {m = m} {ns = ns} a) = omega (arith, among_size n 
 
 pub inner_size : (m n : Node) → Among m (inner_of n) → size m < size n
 inner_size m n a = omega (arith, among_size m (inner_of n) a, inner_total n)
+
+-- what the comparison of two places says
+pub spots_are : (a b : Spot) (t : Bool) → t ≡ not (eqb a.at b.at && beq a.pair b.pair) → same_spot a b ≡ not t
+spots_are a b t e = by a.pair b.pair refl refl ∙ sym (not_not (eqb a.at b.at && beq a.pair b.pair)) ∙ ap not (sym e)
+  where
+    not_not : (x : Bool) → not (not x) ≡ x
+    not_not true = refl
+    not_not false = refl
+
+    by : (p q : Bool) → a.pair ≡ p → b.pair ≡ q → (eqb a.at b.at && cond p q (not q)) ≡ (eqb a.at b.at && beq p q)
+    by true true i j = refl
+    by true false i j = refl
+    by false true i j = refl
+    by false false i j = refl

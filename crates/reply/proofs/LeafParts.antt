@@ -1,19 +1,18 @@
 -- The part of the bytes that the code tells of a leaf.
-use Rattle.std.proofs.Common.{◌≡◌, ℕ, suc, ◌+◌, ◌-◌, ◌^◌, ◌<◌, ◌≤◌, min, Bool, true, false, List, [], ◌∷◌, ◌++◌, length, take, drop, ℤ, Some, None, sym, refl, ap, ◌∙◌, subst, append_assoc, arith}
-use Rattle.std.proofs.lemmas.List.{length-append, length-drop, drop-drop, take_at}
+use Rattle.std.proofs.Common.{◌≡◌, ℕ, ◌+◌, ◌-◌, ◌^◌, ◌<◌, ◌≤◌, min, Bool, true, false, List, [], ◌∷◌, ◌++◌, length, drop, None, sym, refl, ap, ◌∙◌, subst, arith}
+use Rattle.std.proofs.lemmas.List.{length-append, length-drop}
 use Rattle.std.proofs.lemmas.Bool.{false≢true}
 use Rattle.resp.specs.declared.case.Case.{Case}
 use Rattle.resp.specs.declared.case.Case.TheVariants as case
 use Rattle.resp.specs.Reply.{Leaf, Nil, Int, BulkString, SimpleString, Okay, Double, Boolean, VerbatimString, BigNumber, ServerError}
 use Rattle.numerals.specs.Integer.{integer}
-use Rattle.numerals.proofs.IntegerRules.{integers_agree}
-use Rattle.resp.specs.Grammar as grammar
-use Rattle.resp.specs.Grammar.{Leafed, crlf}
+use Rattle.resp.specs.Grammar.{Leafed}
 use Rattle.resp.specs.Node.{Node, OneAt, ArrayAt, SetAt, PushAt, MapAt, AttributeAt, PairAt, erase}
-use Rattle.resp.specs.Cases.{case_of, case_of_leaf}
+use Rattle.resp.specs.Cases.{case_of}
 use Rattle.reply.specs.declared.part.Part.{Part}
 use Rattle.reply.specs.Parts.{start_of}
 use Rattle.reply.specs.Parted.{text_start, part_in, part_of, textual, integer_in}
+use Rattle.reply.specs.Says.{Says}
 use Rattle.reply.specs.Tree.{view_at, is_read, node_at, Ended}
 use Rattle.resp.specs.Reading.{a_leaf}
 use Rattle.resp.proofs.Outs.{clash}
@@ -121,50 +120,24 @@ ints case.ServerError = 0
 no_int : (k : Case) → ints k ≡ 0 → k ≡ case.Int → ⊥
 no_int k z e = omega (arith, ap ints e)
 
-record IntLine (l : Leaf) (x : List ℕ) : Type 0 where
-  pub value : ℤ
-  pub line : List ℕ
-  pub leaf : l ≡ Int value
-  pub form : x ≡ 58 ∷ (line ++ crlf)
-  pub reads : integer line ≡ Some value
-
-int_line : (l : Leaf) (x : List ℕ) → Leafed l x → case_of_leaf l ≡ case.Int → IntLine l x
-int_line _ _ (grammar.an_integer {z = z} {c = c} line i) e = record { value = z; line = c; leaf = refl; form = refl; reads = (integers_agree z c).1 i }
-int_line _ _ grammar.a_null e = absurd (no_int _ refl e)
-int_line _ _ grammar.a_null_bulk e = absurd (no_int _ refl e)
-int_line _ _ grammar.a_null_array e = absurd (no_int _ refl e)
-int_line _ _ grammar.a_true e = absurd (no_int _ refl e)
-int_line _ _ grammar.a_false e = absurd (no_int _ refl e)
-int_line _ _ (grammar.a_double line i) e = absurd (no_int _ refl e)
-int_line _ _ (grammar.a_big_number line i) e = absurd (no_int _ refl e)
-int_line _ _ grammar.an_okay e = absurd (no_int _ refl e)
-int_line _ _ (grammar.a_simple_string line w n) e = absurd (no_int _ refl e)
-int_line _ _ (grammar.a_simple_error line w) e = absurd (no_int _ refl e)
-int_line _ _ (grammar.a_bulk_string h) e = absurd (no_int _ refl e)
-int_line _ _ (grammar.a_bulk_error h w) e = absurd (no_int _ refl e)
-int_line _ _ (grammar.a_verbatim_string three h w) e = absurd (no_int _ refl e)
-
-pub record IntPart (bs : List ℕ) (p e : ℕ) : Type 0 where
-  pub long : p + 3 ≤ e
-  pub inside : e ≤ length bs
-  pub value : integer (take (e - 2 - (p + 1)) (drop (p + 1) bs)) ≡ integer_in (node_at bs false p)
-
-pub int_part : (bs : List ℕ) (p e : ℕ) → p ≤ length bs → is_read (view_at bs false p) ≡ true → case_of (erase (node_at bs false p)) ≡ case.Int → Ended bs false p e → IntPart bs p e
-int_part bs p e le h is t =
-    let L = leaf_at bs p le h (ap textual is) in
-    let end = leaf_end bs p e L t in
-    let same : case_of_leaf L.it ≡ case.Int = ap (λ n. case_of (erase n)) (sym L.node) ∙ is in
-    let I = int_line L.it L.front L.formed same in
-    let c = I.line in
-    let len : length L.front ≡ suc (length c + 2) = ap length I.form ∙ ap suc (length-append c crlf) in
-    let all : drop p bs ≡ 58 ∷ ((c ++ crlf) ++ L.rest) = L.split ∙ ap (λ x. x ++ L.rest) I.form in
-    let back : drop (p + 1) bs ≡ c ++ (crlf ++ L.rest) = sym (drop-drop 1 p bs) ∙ ap (drop 1) all ∙ append_assoc c crlf L.rest in
-    let n : e - 2 - (p + 1) ≡ length c = omega arith in
-    record {
-      long = omega arith;
-      inside = t.inside;
-      value = ap integer (ap (take (e - 2 - (p + 1))) back ∙ take_at c (crlf ++ L.rest) (e - 2 - (p + 1)) (sym n)) ∙ I.reads ∙ ap (λ l. integer_in (OneAt p (p + length L.front) l)) (sym I.leaf) ∙ ap integer_in (sym L.node);
-    }
+-- the text of an integer is its line
+pub says_int : (n : Node) (x : List ℕ) → case_of (erase n) ≡ case.Int → Says n x → integer x ≡ integer_in n
+says_int (OneAt p e (Int z)) x is says = says
+says_int (OneAt p e Nil) x is says = absurd (no_int _ refl is)
+says_int (OneAt p e (BulkString s)) x is says = absurd (no_int _ refl is)
+says_int (OneAt p e (SimpleString c)) x is says = absurd (no_int _ refl is)
+says_int (OneAt p e Okay) x is says = absurd (no_int _ refl is)
+says_int (OneAt p e (Double c)) x is says = absurd (no_int _ refl is)
+says_int (OneAt p e (Boolean v)) x is says = absurd (no_int _ refl is)
+says_int (OneAt p e (VerbatimString f t)) x is says = absurd (no_int _ refl is)
+says_int (OneAt p e (BigNumber c)) x is says = absurd (no_int _ refl is)
+says_int (OneAt p e (ServerError c)) x is says = absurd (no_int _ refl is)
+says_int (ArrayAt p e ns) x is says = absurd (no_int _ refl is)
+says_int (SetAt p e ns) x is says = absurd (no_int _ refl is)
+says_int (PushAt p e ns) x is says = absurd (no_int _ refl is)
+says_int (MapAt p e ps) x is says = absurd (no_int _ refl is)
+says_int (AttributeAt p e ps n) x is says = absurd (no_int _ refl is)
+says_int (PairAt p e k v) x is says = absurd (no_int _ refl is)
 
 pub int_only : (n : Node) → (case_of (erase n) ≡ case.Int → ⊥) → None ≡ integer_in n
 int_only (OneAt p e Nil) h = refl

@@ -1,5 +1,5 @@
 -- The row below a reply is its parts.
-use Rattle.std.proofs.Common.{◌≡◌, ℕ, zero, suc, ◌+◌, ◌-◌, ◌*◌, ◌/◌, ◌<◌, ◌≤◌, Bool, true, false, List, [], ◌∷◌, ◌++◌, map as each, length, drop, Some, None, Option, sym, refl, ap, ◌∙◌, subst, arith}
+use Rattle.std.proofs.Common.{◌≡◌, ℕ, zero, suc, ◌+◌, ◌-◌, ◌*◌, ◌/◌, ◌<◌, ◌≤◌, Bool, true, false, List, [], ◌∷◌, ◌++◌, map as each, length, drop, Some, Option, sym, refl, ap, ◌∙◌, subst, arith}
 use Rattle.std.proofs.lemmas.List.{drop_at, drop-drop, length-drop, length-append}
 use Rattle.std.proofs.lemmas.Bool.{false≢true}
 use Rattle.resp.specs.declared.case.Case.{Case}
@@ -19,7 +19,7 @@ use Rattle.reply.specs.Tree.{view, view_at, row_at, is_read, node_at, wholly, wh
 use Rattle.reply.specs.declared.open.Row.{Row}
 use Rattle.resp.specs.Grammar.{Header, header, Leafed}
 use Rattle.reply.specs.Parted.{textual}
-use Rattle.reply.specs.Opened.{row_from, singles, inner_row, Inner, Opened, Spread, attributes, Attributed}
+use Rattle.reply.specs.Opened.{row_from, singles, inner_row, Inner, Opened, Spread}
 use Rattle.reply.proofs.Grows.{grows, grows_items, grows_pair}
 use Rattle.reply.proofs.Rows.{read_ok, ok_read, node_is, nodes_are}
 use Rattle.reply.proofs.Views.{level}
@@ -262,29 +262,7 @@ row_is bs p t rest le e =
     let (x, w, is, in') = front bs p h more le i in
     (h, more, i, in', collected bs p (p + (length (drop p bs) - length more)) (offset (length bs) (drop p bs)) (offset (length bs) rest) more rest t is (omega arith) in' e h x w f j k)
 
--- an attribute by its case
-leaf_attributes : (l : Leaf) → attributes (Some (case_of_leaf l)) ≡ false
-leaf_attributes Nil = refl
-leaf_attributes (Int z) = refl
-leaf_attributes (BulkString s) = refl
-leaf_attributes (SimpleString c) = refl
-leaf_attributes Okay = refl
-leaf_attributes (Double c) = refl
-leaf_attributes (Boolean v) = refl
-leaf_attributes (VerbatimString f t) = refl
-leaf_attributes (BigNumber c) = refl
-leaf_attributes (ServerError c) = refl
-
-attributes_is : (t : Node) → attributes (Some (case_of (erase t))) ≡ is_attribute t
-attributes_is (OneAt p e l) = leaf_attributes l
-attributes_is (ArrayAt p e ns) = refl
-attributes_is (SetAt p e ns) = refl
-attributes_is (PushAt p e ns) = refl
-attributes_is (MapAt p e ps) = refl
-attributes_is (AttributeAt p e ps n) = refl
-attributes_is (PairAt p e k v) = refl
-
-others : (t : Node) → is_attribute t ≡ false → unwrapped t ≡ t
+pub others : (t : Node) → is_attribute t ≡ false → unwrapped t ≡ t
 others (OneAt p e l) h = refl
 others (ArrayAt p e ns) h = refl
 others (SetAt p e ns) h = refl
@@ -294,36 +272,17 @@ others (AttributeAt p e ps n) h = absurd (false≢true (sym h))
 others (PairAt p e k v) h = refl
 
 -- what the code is told of a whole reply
-module _ (bs : List ℕ) (p : ℕ) (le : p ≤ length bs) (h : is_read (view_at bs false p) ≡ true) where
+module _ (bs : List ℕ) (p : ℕ) (h : is_read (view_at bs false p) ≡ true) where
   pub case_told : (r : Option Case) → Cased (drop p bs) r → (t : Node) (rest : List ℕ) → view_at bs false p ≡ ok t rest → r ≡ Some (case_of (erase t))
   case_told r c t rest o =
       let l = drop p bs in
       let (u, q, same) = plainly_read (offset (length l)) deepest l (erase t) rest (read_plainly (offset (length bs)) deepest l t rest o) in
       c u rest q ∙ ap (λ n. Some (case_of n)) same
 
-  pub never_none : Cased (drop p bs) None → ⊥
-  never_none c =
+  pub case_found : (r : Option Case) → Cased (drop p bs) r → r ≡ Some (case_of (erase (node_at bs false p)))
+  case_found r c =
       let (t, rest, o) = read_ok (view_at bs false p) h in
-      apart (case_told None c t rest o)
-    where
-      apart : {k : Case} → ◌≡◌ {A = Option Case} None (Some k) → ⊥
-      apart e = let z : ◌≡◌ {A = ℕ} 0 1 = cc in omega arith
-
-  -- whether it is an attribute
-  pub attributed : (r : Option Case) → Cased (drop p bs) r → Attributed bs p (attributes r) × (is_attribute (node_at bs false p) ≡ attributes r)
-  attributed r c =
-      let (t, rest, o) = read_ok (view_at bs false p) h in
-      let n : node_at bs false p ≡ t = node_is bs false p t rest o in
-      let same : is_attribute (node_at bs false p) ≡ attributes r = ap is_attribute n ∙ sym (ap attributes (case_told r c t rest o) ∙ attributes_is t) in
-      (record { is = λ e. same ∙ e; other = λ e. sym (others (node_at bs false p) (same ∙ e)) }, same)
-
-  pub case_is : (k : Case) → Cased (drop p bs) (Some k) → k ≡ case_of (erase (node_at bs false p))
-  case_is k c =
-      let (t, rest, o) = read_ok (view_at bs false p) h in
-      let n : node_at bs false p ≡ t = node_is bs false p t rest o in
-      let s = case_told (Some k) c t rest o in
-      let same : k ≡ case_of (erase t) = cc in
-      same ∙ ap (λ n. case_of (erase n)) (sym n)
+      case_told r c t rest o ∙ ap (λ n. Some (case_of (erase n))) (sym (node_is bs false p t rest o))
 
 -- a reply that has a text is a leaf
 module _ (g : List ℕ → Out Node) (s e : ℕ) where

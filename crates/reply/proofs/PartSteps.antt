@@ -1,25 +1,14 @@
 -- The text of a leaf.
-use Rattle.std.proofs.Common.{◌≡◌, ℕ, suc, ◌+◌, ◌-◌, ◌^◌, ◌<◌, ◌≤◌, min, Bool, true, false, cond, eqb, List, [], ◌∷◌, ◌++◌, length, get_or, drop, refl, ap, ◌∙◌, append_assoc, arith}
-use Rattle.std.proofs.lemmas.List.{drop_more, drop_all, length-append}
-use Rattle.std.proofs.lemmas.Bool.{eq-eqb, ne_eqb}
+use Rattle.std.proofs.Common.{◌≡◌, ℕ, suc, ◌+◌, ◌-◌, ◌^◌, ◌<◌, ◌≤◌, min, Bool, true, false, not, cond, eqb, ltb, List, [], ◌∷◌, ◌++◌, length, Some, None, Option, sym, refl, ap, ◌∙◌, append_assoc, arith}
+use Rattle.std.proofs.lemmas.List.{length-append}
+use Rattle.std.specs.List.{position, position_or_len}
+use Rattle.std.specs.Option.{option_map_or}
+use Rattle.std.proofs.lemmas.Bool.{ltb-true, ltb-false, ne_eqb}
 use Rattle.resp.specs.Grammar as grammar
 use Rattle.resp.specs.Grammar.{Clean, Line, Header, header, Leafed, crlf}
 use Rattle.resp.specs.Reply.{Leaf, Nil}
 use Rattle.reply.specs.declared.part.Part.{Part}
 use Rattle.reply.specs.Parted.{after_lf, text_start, part_in}
-
-pub lf_here : (bs : List ℕ) (i : ℕ) → after_lf bs ≡ i + after_lf (drop i bs) → i < length bs → get_or bs i 0 ≡ 10 → i + 1 ≡ after_lf bs
-lf_here bs i e lt is =
-    let here : after_lf (drop i bs) ≡ 1 = ap after_lf (drop_more bs i 0 lt) ∙ ap (λ t. cond t 1 (suc (after_lf (drop (i + 1) bs)))) (eq-eqb (get_or bs i 0) 10 is) in
-    omega arith
-
-pub lf_more : (bs : List ℕ) (i : ℕ) → after_lf bs ≡ i + after_lf (drop i bs) → i < length bs → (get_or bs i 0 ≡ 10 → ⊥) → after_lf bs ≡ i + 1 + after_lf (drop (i + 1) bs)
-lf_more bs i e lt not =
-    let here : after_lf (drop i bs) ≡ suc (after_lf (drop (i + 1) bs)) = ap after_lf (drop_more bs i 0 lt) ∙ ap (λ t. cond t 1 (suc (after_lf (drop (i + 1) bs)))) (ne_eqb (get_or bs i 0) 10 not) in
-    omega arith
-
-pub lf_end : (bs : List ℕ) (i : ℕ) → after_lf bs ≡ i + after_lf (drop i bs) → i ≡ length bs → length bs ≡ after_lf bs
-lf_end bs i e is = let here : after_lf (drop i bs) ≡ 0 = ap after_lf (drop_all i bs (omega arith)) in omega arith
 
 pub lf_within : (bs : List ℕ) → after_lf bs ≤ length bs
 lf_within [] = omega arith
@@ -93,3 +82,22 @@ leaf_text_lem p e _ _ rest (grammar.a_verbatim_string {f = f} {t = t} three (hea
     let j = length-append f (58 ∷ t) in
     let k : min (after_lf ((h ++ (s ++ crlf)) ++ rest) + 4) (2 ^ 64 - 1) ≡ suc (length c + 2) + 4 = omega arith in
     ap (λ k. record { start = p + k; len = e - 2 - (p + k) }) k ∙ same_part (omega arith) (omega arith)
+
+-- the first line by where its LF stands
+pub lf_is : (bs : List ℕ) → after_lf bs ≡ min (length bs) (position_or_len (λ b. eqb b 10) bs + 1)
+lf_is [] = refl
+lf_is (b ∷ bs) = go (eqb b 10) (lf_is bs)
+  where
+    go : (t : Bool) → after_lf bs ≡ min (length bs) (position_or_len (λ b. eqb b 10) bs + 1)
+        → cond t 1 (suc (after_lf bs)) ≡ min (length (b ∷ bs)) (cond (not t) (1 + position_or_len (λ b. eqb b 10) bs) 0 + 1)
+    go true h = omega arith
+    go false h = omega arith
+
+-- and by what a search for it answers
+pub lf_found : (bs : List ℕ) (r : Option ℕ) → r ≡ position (λ b. eqb b 10) bs → option_map_or suc r (length bs) ≡ after_lf bs
+lf_found bs r e = ap (λ o. option_map_or suc o (length bs)) e ∙ by (ltb (position_or_len (λ b. eqb b 10) bs) (length bs)) refl ∙ sym (lf_is bs)
+  where
+    by : (t : Bool) → ltb (position_or_len (λ b. eqb b 10) bs) (length bs) ≡ t
+        → option_map_or suc (cond t (Some (position_or_len (λ b. eqb b 10) bs)) None) (length bs) ≡ min (length bs) (position_or_len (λ b. eqb b 10) bs + 1)
+    by true e = let lt = ltb-true (position_or_len (λ b. eqb b 10) bs) (length bs) e in omega arith
+    by false e = let le = ltb-false (position_or_len (λ b. eqb b 10) bs) (length bs) e in omega arith

@@ -10,22 +10,23 @@ use Rattle.resp.specs.Limits.{length_most, items_most, pairs_most}
 use Rattle.resp.specs.Reply.{Leaf}
 use Rattle.resp.specs.Reading.{Head, a_leaf, of_array, of_set, of_push, of_map, of_attribute, Form, array, set, push, map, attribute, opening, items, pair, named, parts}
 use Rattle.resp.specs.declared.case.Case.{Case}
-use Rattle.resp.specs.Cases.{case_of, Cased}
+use Rattle.resp.specs.Cases.{case_of}
 use Rattle.resp.specs.Node.{Node, erase, is_string_node, reading, offset}
 use Rattle.resp.specs.Told.{items_in}
 use Rattle.resp.proofs.Outs.{and_then_ok, map_out_ok}
 use Rattle.resp.proofs.Heads.{Headed, opening_agrees}
+use Rattle.reply.specs.declared.open.Row.{Row}
 use Rattle.reply.specs.declared.pass.Passed.{Passed}
 use Rattle.reply.specs.Parted.{after_lf}
 use Rattle.reply.specs.Pass.{short, counted, Small, tells, told_count, followed_by, passed_by, passed_of}
 use Rattle.reply.specs.Opened.{row_from}
-use Rattle.reply.specs.Tree.{view, view_at, row_at, is_read, Ended, RowEnded}
-use Rattle.reply.proofs.Rows.{read_ok, read_inside}
-use Rattle.reply.proofs.Views.{level}
+use Rattle.reply.specs.Tree.{view, view_at, row_at, is_read, node_at, wholly, RowEnded}
+use Rattle.reply.proofs.Rows.{read_ok, node_is}
+use Rattle.reply.proofs.Views.{level, single}
 use Rattle.reply.proofs.Grows.{grows, grows_items}
 use Rattle.reply.proofs.PartSteps.{lf_header, lf_some}
-use Rattle.reply.proofs.Opening.{items_in_turn, items_and_one, named_items, front, row_is, case_told, Rowed}
-use Rattle.reply.proofs.Bounds.{reply_ends, same_end}
+use Rattle.reply.proofs.Opening.{items_in_turn, items_and_one, named_items, front, row_is, Rowed}
+use Rattle.reply.proofs.Bounds.{reply_ends, row_ends, same_end}
 
 -- any item is passed by some bytes of it
 pub pass_within : (l : List ℕ) → (passed_of l).len ≤ length l
@@ -157,7 +158,7 @@ items_append f (suc n) m l xs more ys rest e o =
     (a ∷ zs, ap (λ k. items f k l) next ∙ ap (λ o. and_then o (λ a more. map_out (λ l. a ∷ l) (items f (n + m) more))) o1 ∙ ap (map_out (λ l. a ∷ l)) w)
 
 -- a row of so many has as many bytes
-row_room : (bs : List ℕ) (p n : ℕ) (ns : List Node) (rest : List ℕ) → p ≤ length bs → row_at bs false p n ≡ ok ns rest → p + n ≤ length bs
+pub row_room : (bs : List ℕ) (p n : ℕ) (ns : List Node) (rest : List ℕ) → p ≤ length bs → row_at bs false p n ≡ ok ns rest → p + n ≤ length bs
 row_room bs p zero ns rest le o = omega arith
 row_room bs p (suc n) ns rest le o =
     let f = view (offset (length bs)) false in
@@ -167,37 +168,28 @@ row_room bs p (suc n) ns rest le o =
     let x = E.after in
     omega (arith, row_room bs E.end n as' rest E.inside (ap (items f n) (sym E.is) ∙ r))
 
--- Of the reply at p so many replies are left from q on.
-pub record Passing (bs : List ℕ) (p q n : ℕ) : Type 0 where
+-- Of the row of k replies at p so many replies are left from q on.
+pub record Passing (bs : List ℕ) (p k q n : ℕ) : Type 0 where
   pub end : ℕ
-  pub ended : Ended bs false p end
+  pub ended : RowEnded bs false p k end
   pub inside : q ≤ length bs
   pub row : RowEnded bs false q n end
 
-pub pass_start : (bs : List ℕ) (p : ℕ) → is_read (view_at bs false p) ≡ true → Passing bs p p 1
-pass_start bs p h =
-    let (t, rest, o) = read_ok (view_at bs false p) h in
-    let never = read_inside bs p h in
-    let le : p ≤ length bs = inside never in
-    let E = reply_ends bs p t rest le o in
-    record {
-      end = E.end;
-      ended = record { tree = t; reads = o ∙ ap (ok t) E.is; inside = E.inside };
-      inside = le;
-      row = record { trees = t ∷ []; reads = ap (λ o. and_then o (λ a l. ok (a ∷ []) l)) o ∙ ap (ok (t ∷ [])) E.is; inside = E.inside };
-    }
-  where
-    inside : (length bs ≤ p → ⊥) → p ≤ length bs
-    inside never = omega arith
+pub pass_start : (bs : List ℕ) (p k : ℕ) → p ≤ length bs → is_read (row_at bs false p k) ≡ true → Passing bs p k p k
+pass_start bs p k le h =
+    let (ns, rest, o) = read_ok (row_at bs false p k) h in
+    let (e, in', is) = row_ends bs false p k ns rest le o in
+    let row : RowEnded bs false p k e = record { trees = ns; reads = o ∙ ap (ok ns) is; inside = in' } in
+    record { end = e; ended = row; inside = le; row = row }
 
-pub pass_done : (bs : List ℕ) (p q : ℕ) → Passing bs p q 0 → Ended bs false p q
-pass_done bs p q w =
+pub pass_done : (bs : List ℕ) (p k q : ℕ) → Passing bs p k q 0 → RowEnded bs false p k q
+pass_done bs p k q w =
     let reads = w.row.reads in
     let same : drop q bs ≡ drop w.end bs = cc in
-    subst (Ended bs false p) (sym (same_end bs q w.end w.inside w.row.inside same)) w.ended
+    subst (RowEnded bs false p k) (sym (same_end bs q w.end w.inside w.row.inside same)) w.ended
 
-pub pass_never : (bs : List ℕ) (p q n : ℕ) → Passing bs p q n → 0 < n → length bs ≤ q → ⊥
-pass_never bs p q n w some le = let room = row_room bs q n w.row.trees (drop w.end bs) w.inside w.row.reads in omega arith
+pub pass_never : (bs : List ℕ) (p k q n : ℕ) → Passing bs p k q n → 0 < n → length bs ≤ q → ⊥
+pass_never bs p k q n w some le = let room = row_room bs q n w.row.trees (drop w.end bs) w.inside w.row.reads in omega arith
 
 pass_row : (bs : List ℕ) (q n e : ℕ) → q ≤ length bs → RowEnded bs false q (suc n) e → (q + (passed_of (drop q bs)).len ≤ length bs) × RowEnded bs false (q + (passed_of (drop q bs)).len) ((passed_of (drop q bs)).items + n) e
 pass_row bs q n e le w =
@@ -224,8 +216,8 @@ pass_row bs q n e le w =
       },
     )
 
-pub pass_more : (bs : List ℕ) (p q n i m : ℕ) (r : Passed) → Passing bs p q n → 0 < n → r ≡ passed_of (drop q bs) → i ≡ q + r.len → m ≡ min (n - 1 + r.items) (2 ^ 64 - 1) → length bs < 2 ^ 64 → Passing bs p i m
-pass_more bs p q n i m r w some is at sum fits =
+pub pass_more : (bs : List ℕ) (p k q n i m : ℕ) (r : Passed) → Passing bs p k q n → 0 < n → r ≡ passed_of (drop q bs) → i ≡ q + r.len → m ≡ min (n - 1 + r.items) (2 ^ 64 - 1) → length bs < 2 ^ 64 → Passing bs p k i m
+pass_more bs p k q n i m r w some is at sum fits =
     let one : n ≡ suc (n - 1) = omega arith in
     let (in', row) = pass_row bs q (n - 1) w.end w.inside (subst (λ k. RowEnded bs false q k w.end) one w.row) in
     let room = row_room bs (q + (passed_of (drop q bs)).len) ((passed_of (drop q bs)).items + (n - 1)) row.trees (drop w.end bs) in' row.reads in
@@ -236,7 +228,7 @@ pass_more bs p q n i m r w some is at sum fits =
     record { end = w.end; ended = w.ended; inside = subst (λ z. z ≤ length bs) place in'; row = subst (λ z. RowEnded bs false z m w.end) place (subst (λ c. RowEnded bs false (q + (passed_of (drop q bs)).len) c w.end) count row) }
 
 -- the row below a whole reply that was passed
-pub row_passed : (bs : List ℕ) (p : ℕ) → p ≤ length bs → is_read (view_at bs false p) ≡ true → (r : Passed) (k : Case) → r ≡ passed_of (drop p bs) → Cased (drop p bs) (Some k)
+pub row_passed : (bs : List ℕ) (p : ℕ) → p ≤ length bs → is_read (view_at bs false p) ≡ true → (r : Passed) (k : Case) → r ≡ passed_of (drop p bs) → k ≡ case_of (erase (node_at bs false p))
     → (p + r.len ≤ length bs) × Rowed bs p (row_from k (p + r.len) r.items)
 row_passed bs p le h r k is c =
     let (t, rest, o) = read_ok (view_at bs false p) h in
@@ -246,12 +238,20 @@ row_passed bs p le h r k is c =
     let len : length (drop p bs) ≡ length x + length more = ap length split ∙ length-append x more in
     let place : p + (length (drop p bs) - length more) ≡ p + r.len = omega (arith, ap (λ p. p.len) passed) in
     let count : items_in head ≡ r.items = sym (ap (λ p. p.items) passed) in
-    let j : k ≡ case_of (erase t) = somes (case_told bs p le h (Some k) c t rest o) in (
+    let j : k ≡ case_of (erase t) = c ∙ ap (λ n. case_of (erase n)) (node_is bs false p t rest o) in (
       subst (λ z. z ≤ length bs) place in',
       subst (λ z. Rowed bs p (row_from k z r.items)) place
           (subst (λ n. Rowed bs p (row_from k (p + (length (drop p bs) - length more)) n)) count
           (subst (λ q. Rowed bs p (row_from q (p + (length (drop p bs) - length more)) (items_in head))) (sym j) w)),
     )
-  where
-    somes : {a b : Case} → ◌≡◌ {A = Option Case} (Some a) (Some b) → a ≡ b
-    somes e = cc
+
+-- and so as the code has it
+pub row_below : (bs : List ℕ) (m : Bool) (p : ℕ) → m ≡ false → p ≤ length bs → wholly bs m p ≡ true → length bs < 2 ^ 64 → (r : Passed) (k : Case) (start : ℕ) (row : Row)
+    → r ≡ passed_of (drop p bs) → k ≡ case_of (erase (node_at bs m p)) → start ≡ min (p + r.len) (2 ^ 64 - 1) → row ≡ row_from k start r.items → Rowed bs p row
+unfolding wholly
+row_below bs m p one-view le h fits r k start row is case sum made =
+    let one = single bs m p one-view h in
+    let w = row_passed bs p le one.0 r k is (case ∙ ap (λ n. case_of (erase n)) (sym one.1)) in
+    let inside = w.0 in
+    let begins : start ≡ p + r.len = omega arith in
+    subst (Rowed bs p) (sym (made ∙ ap (λ e. row_from k e r.items) begins)) w.1

@@ -1,11 +1,9 @@
 -- Views and rows of them, from where they begin to where they end.
 use Rattle.std.proofs.Common.{◌≡◌, ℕ, zero, suc, ◌+◌, ◌-◌, ◌<◌, ◌≤◌, Bool, true, false, List, [], ◌∷◌, length, drop, Ok, Err, Result, sym, refl, ap, ◌∙◌, arith}
-use Rattle.std.proofs.lemmas.List.{drop_all, drop_at, drop-drop, length-drop, length-append}
-use Rattle.std.proofs.lemmas.Bool.{false≢true}
-use Rattle.resp.specs.declared.fault.WireReason.TheVariants.{NotWhole}
+use Rattle.std.proofs.lemmas.List.{drop_at, drop-drop, length-drop, length-append}
 use Rattle.resp.specs.declared.fault.WireFault.{WireFault}
 use Rattle.resp.specs.Limits.{deepest}
-use Rattle.resp.specs.Out.{Out, ok, fault, and_then, map_out}
+use Rattle.resp.specs.Out.{Out, ok, fault}
 use Rattle.resp.specs.Reply.{Nil}
 use Rattle.resp.specs.Reading.{items, pair}
 use Rattle.resp.specs.Node.{Node, OneAt, erase, reading, offset}
@@ -13,7 +11,7 @@ use Rattle.resp.specs.Answer.{located, answered, answer}
 use Rattle.resp.proofs.Outs.{and_then_ok, map_out_ok}
 use Rattle.resp.proofs.Unique.{read_plainly, plainly_read, reads_a_front}
 use Rattle.reply.specs.Parts.{pair_node}
-use Rattle.reply.specs.Tree.{view, view_at, row_at, is_read, read_or, node_at, nodes_at, Ended, RowEnded}
+use Rattle.reply.specs.Tree.{view, view_at, row_at, is_read, read_or, node_at, nodes_at, Ended}
 
 pub read_ok : {A : Type 0} (o : Out A) → is_read o ≡ true → (a : A) × (rest : List ℕ) × (o ≡ ok a rest)
 read_ok (ok a rest) h = (a, rest, refl)
@@ -33,12 +31,6 @@ nodes_are bs m p n ns rest e = ap (read_or []) e
 apart : {n : ℕ} {f : WireFault} → ◌≡◌ {A = Result ℕ WireFault} (Ok n) (Err f) → ⊥
 apart h = let z : ◌≡◌ {A = ℕ} 0 1 = cc in omega arith
 
--- a reply begins inside the bytes
-pub read_inside : (bs : List ℕ) (p : ℕ) → is_read (view_at bs false p) ≡ true → length bs ≤ p → ⊥
-read_inside bs p h le =
-    let w : view_at bs false p ≡ fault NotWhole [] = ap (reading (offset (length bs)) deepest) (drop_all p bs le) in
-    false≢true (sym (ap is_read w) ∙ h)
-
 -- what `walk` says of the bytes from a place on
 pub walk_ended : (bs : List ℕ) (p n : ℕ) → p ≤ length bs → answer (drop p bs) ≡ Ok n → Ended bs false p (p + n)
 walk_ended bs p n le e = go (located (drop p bs)) refl e
@@ -55,16 +47,6 @@ walk_ended bs p n le e = go (located (drop p bs)) refl e
         let short : length l ≡ length bs - p = length-drop p bs in
         record { tree = u; reads = o ∙ ap (ok u) (back ∙ drop-drop n p bs); inside = omega arith }
 
--- a pair is two replies
-pub pair_ended : (bs : List ℕ) (p e e' : ℕ) → Ended bs false p e → Ended bs false e e' → Ended bs true p e'
-pair_ended bs p e e' a b =
-    record {
-      tree = pair_node (a.tree, b.tree);
-      reads = ap (λ o. map_out pair_node (and_then o (λ k more. map_out (λ v. (k, v)) (reading (offset (length bs)) deepest more)))) a.reads
-          ∙ ap (λ o. map_out pair_node (map_out (λ v. (a.tree, v)) o)) b.reads;
-      inside = b.inside;
-    }
-
 pub first_read : (bs : List ℕ) (m : Bool) (p : ℕ) → is_read (view_at bs m p) ≡ true → is_read (view_at bs false p) ≡ true
 first_read bs false p h = h
 first_read bs true p h =
@@ -72,17 +54,6 @@ first_read bs true p h =
     let (q, o, _) = map_out_ok (pair (reading (offset (length bs)) deepest) (drop p bs)) pair_node n rest e in
     let (a, more, o', _) = and_then_ok (view_at bs false p) _ q rest o in
     ok_read (view_at bs false p) a more o'
-
-pub second_read : (bs : List ℕ) (p e : ℕ) → is_read (view_at bs true p) ≡ true → Ended bs false p e → is_read (view_at bs false e) ≡ true
-second_read bs p e h t =
-    let f = reading (offset (length bs)) deepest in
-    let (n, rest, w) = read_ok (view_at bs true p) h in
-    let (q, o, i) = map_out_ok (pair f (drop p bs)) pair_node n rest w in
-    let (a, more, o1, o2) = and_then_ok (view_at bs false p) _ q rest o in
-    let (b, o3, i2) = map_out_ok (f more) (λ b. (a, b)) q rest o2 in
-    let k = t.reads in
-    let m : more ≡ drop e bs = cc in
-    ok_read (view_at bs false e) b rest (ap f (sym m) ∙ o3)
 
 -- a row with something in it
 row_first : {A : Type 0} (f : List ℕ → Out A) (l : List ℕ) (n : ℕ) → 0 < n → is_read (items f n l) ≡ true
@@ -116,43 +87,6 @@ row_after bs m p n e lt h t =
       inside = t.inside;
       items = nodes_are bs m p n (a ∷ l) rest w ∙ ap (λ x. x ∷ l) (sym (node_is bs m p a more o)) ∙ ap (λ x. node_at bs m p ∷ x) (sym (nodes_are bs m e (n - 1) l rest r));
     }
-
--- what is left of a row after i of its views
-pub record LeftRow (bs : List ℕ) (m : Bool) (p n i e : ℕ) : Type 0 where
-  pub inside : e ≤ length bs
-  pub whole : is_read (row_at bs m e (n - i)) ≡ true
-  pub back : (ns : List Node) (rest : List ℕ) → row_at bs m e (n - i) ≡ ok ns rest → (all : List Node) × (row_at bs m p n ≡ ok all rest)
-
-pub left_none : (bs : List ℕ) (m : Bool) (p n : ℕ) → p ≤ length bs → is_read (row_at bs m p n) ≡ true → LeftRow bs m p n 0 p
-left_none bs m p n le h =
-    let z : n - 0 ≡ n = omega arith in
-    record { inside = le; whole = ap (λ k. is_read (row_at bs m p k)) z ∙ h; back = λ ns rest o. (ns, ap (row_at bs m p) (sym z) ∙ o) }
-
-after_first : {A : Type 0} (f : List ℕ → Out A) (n n' : ℕ) (l l' : List ℕ) (xs : List A) (rest : List ℕ) → n ≡ n' → l ≡ l' → items f n l ≡ ok xs rest → items f n' l' ≡ ok xs rest
-after_first f n n' l l' xs rest s is q = ap (λ k. items f k l') (sym s) ∙ ap (items f n) (sym is) ∙ q
-
-pub left_more : (bs : List ℕ) (m : Bool) (p n i e e' : ℕ) → i < n → LeftRow bs m p n i e → Ended bs m e e' → LeftRow bs m p n (i + 1) e'
-left_more bs m p n i e e' lt l t =
-    let f = view (offset (length bs)) m in
-    let s : n - i - 1 ≡ n - (i + 1) = omega arith in
-    let (a, xs, more, rest, o, q, w) = row_first f (drop e bs) (n - i) (omega arith) l.whole in
-    let k = t.reads in
-    let is : more ≡ drop e' bs = cc in
-    let r = after_first f (n - i - 1) (n - (i + 1)) more (drop e' bs) xs rest s is q in
-    record {
-      inside = t.inside;
-      whole = ok_read (row_at bs m e' (n - (i + 1))) xs rest r;
-      back = λ ns rest' z. let same : rest ≡ rest' = cc in l.back (a ∷ xs) rest' (w ∙ ap (ok (a ∷ xs)) same);
-    }
-
-pub left_done : (bs : List ℕ) (m : Bool) (p n i e : ℕ) → n ≤ i → LeftRow bs m p n i e → RowEnded bs m p n e
-left_done bs m p n i e le l =
-    let z : n - i ≡ 0 = omega arith in
-    let (all, o) = l.back [] (drop e bs) (ap (row_at bs m e) z) in
-    record { trees = all; reads = o; inside = l.inside }
-
-pub left_first : (bs : List ℕ) (m : Bool) (p n i e : ℕ) → i < n → LeftRow bs m p n i e → is_read (view_at bs m e) ≡ true
-left_first bs m p n i e lt l = first_whole bs m e (n - i) (omega arith) l.whole
 
 -- a row has as many trees as it says
 items_length : {A : Type 0} (f : List ℕ → Out A) (n : ℕ) (l : List ℕ) (as' : List A) (rest : List ℕ) → items f n l ≡ ok as' rest → length as' ≡ n

@@ -11,7 +11,7 @@ use Rattle.resp.specs.Node.{Node, OneAt, ArrayAt, SetAt, PushAt, MapAt, Attribut
 use Rattle.resp.proofs.Outs.{and_then_ok, map_out_ok}
 use Rattle.resp.proofs.Opens.{ended_ok}
 use Rattle.reply.specs.declared.spot.Spot.{Spot}
-use Rattle.reply.specs.Parts.{start_of, is_pair, spot_of, pair_node, parts_of, flat_of, inner_of, unwrapped, key_of, value_of}
+use Rattle.reply.specs.Parts.{start_of, is_pair, spot_of, pair_node, parts_of, flat_of, inner_of, is_attribute, key_of, value_of}
 use Rattle.reply.specs.Tree.{view_at, row_at, is_read, node_at, nodes_at, wholly, Ended}
 use Rattle.reply.proofs.Rows.{read_ok, ok_read, node_is, nodes_are}
 
@@ -112,15 +112,20 @@ value_is bs true p e is h t =
     let q : view_at bs false e ≡ ok v rest = ap (reading (offset (length bs)) deepest) (sym m) ∙ i in
     record { whole = ok_read (view_at bs false e) v rest q; inside = t.inside; node = node_is bs false e v rest q ∙ ap value_of (sym (node_is bs true p (pair_node (k, v)) rest w)) }
 
--- a pair is a row of itself alone
-pub pair_row : (bs : List ℕ) (m : Bool) (p : ℕ) → m ≡ true → is_read (view_at bs m p) ≡ true → (is_read (row_at bs true p 1) ≡ true) × (nodes_at bs true p 1 ≡ parts_of (node_at bs m p))
-pair_row bs false p e h = absurd (false≢true e)
-pair_row bs true p e h =
-    let (k, v, more, rest, o, i, w) = halves bs p h in
-    let r : row_at bs true p 1 ≡ ok (pair_node (k, v) ∷ []) rest = ap (λ o. and_then o (λ a l. ok (a ∷ []) l)) w in
-    (ok_read (row_at bs true p 1) _ rest r, nodes_are bs true p 1 _ rest r ∙ ap parts_of (sym (node_is bs true p (pair_node (k, v)) rest w)))
+-- what is an attribute is no pair
+pub attribute_single : (bs : List ℕ) (m : Bool) (p : ℕ) → is_read (view_at bs m p) ≡ true → is_attribute (node_at bs m p) ≡ true → m ≡ false
+attribute_single bs false p h is = refl
+attribute_single bs true p h is = let (k, v, more, rest, o, i, w) = halves bs p h in absurd (false≢true (ap is_attribute (sym (node_is bs true p (pair_node (k, v)) rest w)) ∙ is))
 
--- and a row of its key and its value
+-- what stands below a pair is itself alone
+pub pair_parts : (bs : List ℕ) (m : Bool) (p : ℕ) → m ≡ true → is_read (view_at bs m p) ≡ true → node_at bs m p ∷ [] ≡ parts_of (node_at bs m p)
+pair_parts bs false p e h = absurd (false≢true e)
+pair_parts bs true p e h =
+    let (k, v, more, rest, o, i, w) = halves bs p h in
+    let is = node_is bs true p (pair_node (k, v)) rest w in
+    ap (λ n. n ∷ []) is ∙ ap parts_of (sym is)
+
+-- a pair is a row of its key and its value
 pub pair_flat : (bs : List ℕ) (m : Bool) (p : ℕ) → m ≡ true → is_read (view_at bs m p) ≡ true → (is_read (row_at bs false p 2) ≡ true) × (nodes_at bs false p 2 ≡ flat_of (node_at bs m p))
 pair_flat bs false p e h = absurd (false≢true e)
 pair_flat bs true p e h =
@@ -141,14 +146,6 @@ pair_inner bs true p e h =
 pub single : (bs : List ℕ) (m : Bool) (p : ℕ) → m ≡ false → wholly bs m p ≡ true → (wholly bs false p ≡ true) × (node_at bs false p ≡ node_at bs m p)
 single bs false p e h = (h, refl)
 single bs true p e h = absurd (false≢true (sym e))
-
--- a pair has no attribute around it
-pub pair_bare : (bs : List ℕ) (m : Bool) (p : ℕ) → m ≡ true → is_read (view_at bs m p) ≡ true → node_at bs m p ≡ unwrapped (node_at bs m p)
-pair_bare bs false p e h = absurd (false≢true e)
-pair_bare bs true p e h =
-    let (k, v, more, rest, o, i, w) = halves bs p h in
-    let n = node_is bs true p (pair_node (k, v)) rest w in
-    n ∙ ap unwrapped (sym n)
 
 pub pair_case : (bs : List ℕ) (m : Bool) (p : ℕ) → m ≡ true → is_read (view_at bs m p) ≡ true → case.Map ≡ case_of (erase (node_at bs m p))
 pair_case bs false p e h = absurd (false≢true e)

@@ -5,8 +5,9 @@ use Rattle.resp.specs.Out.{ok}
 use Rattle.resp.specs.Node.{Node}
 use Rattle.resp.specs.Answer.{located}
 
-abbrev pub fault_of : Result ℕ WireFault → Option WireFault
-fault_of (Ok n) = None
+-- why there is none, if there is none
+abbrev pub fault_of : {T : Type 0} → Result T WireFault → Option WireFault
+fault_of (Ok t) = None
 fault_of (Err f) = Some f
 
 -- the bytes begin with the reply whose located tree is n

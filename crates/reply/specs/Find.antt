@@ -2,10 +2,11 @@
 use Rattle.std.specs.Prelude.{◌≡◌, Bool, cond, not, ◌&&◌, List, [], ◌∷◌, Some, None, Option, ◌==◌}
 use Rattle.resp.specs.Node.{Node, OneAt, ArrayAt, SetAt, PushAt, MapAt, AttributeAt, PairAt, Nodes, no_node, node_then, NodePairs, no_nodes, nodes_then}
 use Rattle.reply.specs.declared.spot.Spot.{Spot}
-use Rattle.reply.specs.declared.found.Found.{Found}
+use Rattle.reply.specs.declared.view.Reply.{Reply}
+use Rattle.reply.specs.declared.view.Items.{Items}
 use Rattle.reply.specs.Parts.{spot_of, pair_node}
-use Rattle.reply.specs.Inside.{Inside}
-use Rattle.reply.specs.View.{node_of}
+use Rattle.reply.specs.Inside.{Among, Inside}
+use Rattle.reply.specs.View.{node_of, nodes_of}
 
 abbrev pub same_spot : Spot → Spot → Bool
 same_spot a b = a.at == b.at && cond a.pair b.pair (not b.pair)
@@ -47,8 +48,15 @@ find_among s [] = None
 find_among s (n ∷ ns) = or_else (find s n) (find_among s ns)
 
 -- what an answer says
-abbrev pub told : Found → Option Node
-told f = cond f.found (Some (node_of f.reply)) None
+abbrev pub told : Option Reply → Option Node
+told (Some r) = Some (node_of r)
+told None = None
+
+-- the reply is one of the row, and what begins at the place in the row begins there in that reply
+pub record Narrows (s : Spot) (row : Items) (reply : Reply) : Type 0 where
+  pub among : Among (node_of reply) (nodes_of row)
+  pub holds : find_among s (nodes_of row) ≡ find s (node_of reply)
+  pub bytes : reply.bytes ≡ row.bytes
 
 -- n is a part of the tree, and begins there
 pub record Begins (s : Spot) (tree n : Node) : Type 0 where

@@ -1,6 +1,7 @@
 pub mod Parts
 pub mod Tree
 pub mod View
+pub mod Rows
 pub mod Opened
 pub mod Checks
 pub mod Parted

@@ -1,9 +1,10 @@
 -- The row of replies, or of pairs, right below a reply.
-use Rattle.std.specs.Prelude.{◌≡◌, ℕ, ◌+◌, ◌*◌, ◌/◌, ◌≤◌, Bool, true, false, cond, List, length, Some, None, Option}
+use Rattle.std.specs.Prelude.{◌≡◌, ℕ, ◌+◌, ◌*◌, ◌/◌, ◌≤◌, Bool, true, false, cond, List, length}
 use Rattle.resp.specs.declared.case.Case.{Case}
 use Rattle.resp.specs.declared.case.Case.TheVariants.{Nil, Int, BulkString, Array, SimpleString, Okay, Map, Attribute, Set, Double, Boolean, VerbatimString, BigNumber, Push, ServerError}
 use Rattle.resp.specs.Limits.{items_most}
 use Rattle.reply.specs.declared.open.Row.{Row}
+use Rattle.reply.specs.declared.view.Items.{Items}
 use Rattle.reply.specs.Parts.{is_attribute, parts_of, flat_of, inner_of, unwrapped}
 use Rattle.reply.specs.Tree.{wholly, wholly_row, node_at, nodes_at, Ended, RowEnded}
 
@@ -24,6 +25,10 @@ row_from Boolean at n = record { at = at; left = 0; pairs = false }
 row_from VerbatimString at n = record { at = at; left = 0; pairs = false }
 row_from BigNumber at n = record { at = at; left = 0; pairs = false }
 row_from ServerError at n = record { at = at; left = 0; pairs = false }
+
+-- a row without its bytes
+abbrev pub row_of : Items → Row
+row_of i = record { at = i.at; left = i.left; pairs = i.pairs }
 
 -- how many replies a row of so many is
 abbrev pub singles : Bool → ℕ → ℕ
@@ -56,26 +61,3 @@ pub record Spread (bs : List ℕ) (p : ℕ) (r : Row) : Type 0 where
   pub singly : wholly_row bs false r.at (singles r.pairs r.left) ≡ true
   pub flat : nodes_at bs false r.at (singles r.pairs r.left) ≡ flat_of (node_at bs false p)
   pub inner : Inner bs false p (inner_row (is_attribute (node_at bs false p)) r)
-
-abbrev pub attributes : Option Case → Bool
-attributes None = false
-attributes (Some Attribute) = true
-attributes (Some Nil) = false
-attributes (Some Int) = false
-attributes (Some BulkString) = false
-attributes (Some Array) = false
-attributes (Some SimpleString) = false
-attributes (Some Okay) = false
-attributes (Some Map) = false
-attributes (Some Set) = false
-attributes (Some Double) = false
-attributes (Some Boolean) = false
-attributes (Some VerbatimString) = false
-attributes (Some BigNumber) = false
-attributes (Some Push) = false
-attributes (Some ServerError) = false
-
--- whether the reply at p is an attribute
-pub record Attributed (bs : List ℕ) (p : ℕ) (r : Bool) : Type 0 where
-  pub is : r ≡ true → is_attribute (node_at bs false p) ≡ true
-  pub other : r ≡ false → node_at bs false p ≡ unwrapped (node_at bs false p)

@@ -1,5 +1,5 @@
 -- What a view shows. These stay shut outside this crate: what holds of them is what the contracts say.
-use Rattle.std.specs.Prelude.{cond, List, ◌==◌}
+use Rattle.std.specs.Prelude.{List}
 use Rattle.resp.specs.Reply.{Nil}
 use Rattle.resp.specs.Node.{Node, OneAt}
 use Rattle.reply.specs.Tree.{node_at, nodes_at}
@@ -16,7 +16,3 @@ nodes_of i = nodes_at i.bytes.now i.pairs i.at i.left
 -- a nil of three bytes
 abbrev pub nil_node : Node
 nil_node = OneAt 0 3 Nil
-
--- the first of a row, or a nil
-unfoldable pub first_of : Items → Node
-first_of i = cond (i.left == 0) nil_node (node_at i.bytes.now i.pairs i.at)

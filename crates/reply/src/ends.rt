@@ -1,14 +1,16 @@
 ghost use Rattle.std.specs.Prelude.{◌≡◌, ◌≤◌, true, false, length};
-ghost use Rattle.reply.specs.Tree.{Ended, RowEnded, wholly, wholly_row};
+ghost use Rattle.reply.specs.Tree.{Ended, RowEnded, wholly_row};
 
+use crate::open::singles;
 use crate::pass::{Passed, pass};
+use crate::view::{Items, Reply};
 
-/// Where the whole reply at `at` ends. It passes item after item, and looks at no text.
-pub(crate) fn reply_end(bytes: &[u8], at: usize) -> usize
-    ensures { wholly bytes.now false at ≡ true → Ended bytes.now false at result }
+/// Where so many whole replies, one after another, end. It passes item after item, and looks at no text.
+fn replies_end(bytes: &[u8], at: usize, replies: usize) -> usize
+    ensures { at ≤ length bytes.now → wholly_row bytes.now false at replies ≡ true → RowEnded bytes.now false at replies result }
 {
     let mut end = at;
-    let mut left: usize = 1;
+    let mut left = replies;
     while left > 0 {
         if end >= bytes.len() {
             return end;
@@ -20,32 +22,20 @@ pub(crate) fn reply_end(bytes: &[u8], at: usize) -> usize
     end
 }
 
-/// The same of a pair.
-pub(crate) fn pair_end(bytes: &[u8], at: usize) -> usize
-    ensures { wholly bytes.now true at ≡ true → Ended bytes.now true at result }
-{
-    let value = reply_end(bytes, at);
-    reply_end(bytes, value)
-}
-
-/// Where a view ends.
-pub(crate) fn view_end(bytes: &[u8], at: usize, pair: bool) -> usize
-    ensures { wholly bytes.now pair at ≡ true → Ended bytes.now pair at result }
-{
-    if pair {
-        pair_end(bytes, at)
-    } else {
-        reply_end(bytes, at)
+impl<'a> Items<'a> {
+    /// Where the last of them ends.
+    pub(crate) fn end(self) -> usize
+        ensures { RowEnded self.entry.bytes.now self.entry.pairs self.entry.at self.entry.left result }
+    {
+        replies_end(self.bytes, self.at, singles(self.left, self.pairs))
     }
 }
 
-/// Where so many views, one after another, end.
-pub(crate) fn row_end(bytes: &[u8], at: usize, left: usize, pairs: bool) -> usize
-    ensures { at ≤ length bytes.now → wholly_row bytes.now pairs at left ≡ true → RowEnded bytes.now pairs at left result }
-{
-    let mut end = at;
-    for _item in 0..left {
-        end = view_end(bytes, end, pairs);
+impl<'a> Reply<'a> {
+    /// Where the view ends.
+    pub(crate) fn end(self) -> usize
+        ensures { Ended self.entry.bytes.now self.entry.pair self.entry.at result }
+    {
+        replies_end(self.bytes, self.at, singles(1, self.pair))
     }
-    end
 }

@@ -5,7 +5,6 @@
 mod alone;
 mod ends;
 mod find;
-mod found;
 mod laws;
 mod line;
 mod open;
@@ -19,9 +18,8 @@ mod tests;
 mod view;
 mod whole;
 
-pub use found::Found;
 pub use laws::places_agree;
 pub use part::Part;
 pub use spot::Spot;
 pub use view::{Items, Reply};
-pub use whole::{Checked, check};
+pub use whole::check;

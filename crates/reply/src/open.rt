@@ -1,14 +1,14 @@
-ghost use Rattle.std.specs.Prelude.{◌≡◌, ◌≤◌, true, false, length};
-ghost use Rattle.resp.specs.Limits.{items_most};
-ghost use Rattle.reply.specs.Opened.{Attributed, Opened, Spread, attributes, row_from, singles};
+ghost use Rattle.std.specs.Prelude.{◌≡◌, ◌^◌, ◌<◌, false};
+ghost use Rattle.reply.specs.Opened.{Opened, Spread, row_from, row_of, singles};
 ghost use Rattle.reply.specs.Parts.{is_attribute};
-ghost use Rattle.reply.specs.Tree.{node_at, wholly};
+ghost use Rattle.reply.specs.View.{node_of};
 
 use crate::pass::{Passed, pass};
-use resp::{Case, case_of};
+use crate::view::{Items, Reply};
+use resp::Case;
 
 /// Where a row of replies or of pairs begins, and how many there are.
-#[derive(Clone, Copy)]
+#[derive(Clone, Copy, PartialEq, Eq, Debug)]
 pub struct Row {
     pub at: usize,
     pub left: usize,
@@ -38,52 +38,37 @@ fn row_from(case: Case, at: usize, items: usize) -> Row
     }
 }
 
-/// The row right below the whole reply at `at`.
-pub(crate) fn open_row(bytes: &[u8], at: usize) -> Row
-    ensures opened { wholly bytes.now false at ≡ true → Opened bytes.now at result }
-    ensures spread { wholly bytes.now false at ≡ true → Spread bytes.now at result }
-{
-    let end = bytes.len();
-    if at > end {
-        return Row {
-            at: end,
-            left: 0,
-            pairs: false,
-        };
-    }
-    let item = &bytes[at..];
-    let Passed { len, items } = pass(item);
-    match case_of(item) {
-        Some(case) => row_from(case, at.saturating_add(len), items),
-        None => Row {
-            at: end,
-            left: 0,
-            pairs: false,
-        },
-    }
-}
-
 /// How many replies a row of so many is: a pair is two.
 pub(crate) fn singles(left: usize, pairs: bool) -> usize
-    requires { left ≤ items_most }
+    requires { singles pairs left < 2 ^ 64 }
     ensures { result ≡ singles pairs left }
 {
     if pairs { 2 * left } else { left }
 }
 
-fn is_attribute_case(case: Option<Case>) -> bool
-    ensures { result ≡ attributes case }
-{
-    matches!(case, Some(Case::Attribute))
-}
-
-/// Whether the whole reply at `at` is an attribute.
-pub(crate) fn is_attribute(bytes: &[u8], at: usize) -> bool
-    ensures attributed { at ≤ length bytes.now → wholly bytes.now false at ≡ true → Attributed bytes.now at result }
-    ensures same { at ≤ length bytes.now → wholly bytes.now false at ≡ true → is_attribute (node_at bytes.now false at) ≡ result }
-{
-    if at > bytes.len() {
-        return false;
+impl<'a> Reply<'a> {
+    /// What stands right below a reply that is no pair.
+    pub(crate) fn below(self) -> Items<'a>
+        requires { self.pair ≡ false }
+        ensures opened { Opened self.entry.bytes.now self.entry.at (row_of result) }
+        ensures spread { Spread self.entry.bytes.now self.entry.at (row_of result) }
+        ensures bytes { result.bytes ≡ self.entry.bytes }
+    {
+        let start = self.at;
+        let Passed { len, items } = pass(&self.bytes[start..]);
+        let Row { at, left, pairs } = row_from(self.case(), start.saturating_add(len), items);
+        Items {
+            bytes: self.bytes,
+            at,
+            left,
+            pairs,
+        }
     }
-    is_attribute_case(case_of(&bytes[at..]))
+
+    /// Whether it is an attribute.
+    pub(crate) fn is_attribute(self) -> bool
+        ensures { result ≡ is_attribute (node_of self.entry) }
+    {
+        matches!(self.case(), Case::Attribute)
+    }
 }

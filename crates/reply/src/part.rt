@@ -1,13 +1,11 @@
-ghost use Rattle.std.specs.Prelude.{◌≡◌, ◌+◌, ◌≤◌, true, false, length, take, drop};
-ghost use Rattle.resp.specs.declared.case.Case.TheVariants.{Int, VerbatimString};
+ghost use Rattle.std.specs.Prelude.{◌≡◌, ◌+◌, ◌≤◌, true, length, take, drop};
+ghost use Rattle.resp.specs.declared.case.Case.TheVariants.{VerbatimString};
 ghost use Rattle.resp.specs.Cases.{case_of};
 ghost use Rattle.resp.specs.Node.{erase};
 ghost use Rattle.reply.specs.Parted.{format_of, integer_in, part_of, text_start, textual};
 ghost use Rattle.reply.specs.Says.{Says};
-ghost use Rattle.reply.specs.Tree.{node_at, wholly};
 ghost use Rattle.reply.specs.View.{node_of};
 
-use crate::ends::reply_end;
 use crate::line::after_lf;
 use crate::view::Reply;
 use numerals::read_integer;
@@ -41,48 +39,20 @@ fn has_text(case: Case) -> bool
     }
 }
 
-/// The text of the whole leaf at `at`.
-fn leaf_part(bytes: &[u8], at: usize) -> Part
-    ensures { at ≤ length bytes.now → wholly bytes.now false at ≡ true → textual (case_of (erase (node_at bytes.now false at))) ≡ true → result ≡ part_of (node_at bytes.now false at) }
-{
-    if at > bytes.len() {
-        return Part { start: at, len: 0 };
-    }
-    let end = reply_end(bytes, at);
-    let start = at.saturating_add(text_start(&bytes[at..]));
-    Part {
-        start,
-        len: end.saturating_sub(2).saturating_sub(start),
-    }
-}
-
-/// The value of the integer line of the whole reply at `at`.
-fn leaf_integer(bytes: &[u8], at: usize) -> Option<i64>
-    ensures { at ≤ length bytes.now → wholly bytes.now false at ≡ true → case_of (erase (node_at bytes.now false at)) ≡ Int → result ≡ integer_in (node_at bytes.now false at) }
-{
-    let end = reply_end(bytes, at);
-    if end > bytes.len() || at >= end || end - at < 3 {
-        return None;
-    }
-    read_integer(&bytes[at + 1..end - 2])
-}
-
-/// The format of the whole verbatim string at `at`: three bytes, right after its first line.
-fn leaf_format(bytes: &[u8], at: usize) -> &[u8]
-    ensures { at ≤ length bytes.now → wholly bytes.now false at ≡ true → case_of (erase (node_at bytes.now false at)) ≡ VerbatimString → result.now ≡ format_of (node_at bytes.now false at) }
-{
-    let end = bytes.len();
-    if at > end {
-        return &bytes[end..];
-    }
-    let start = at.saturating_add(after_lf(&bytes[at..]));
-    if start > end || end - start < 3 {
-        return &bytes[end..];
-    }
-    &bytes[start..start + 3]
-}
-
 impl<'a> Reply<'a> {
+    /// The text of a leaf that has one.
+    fn leaf_part(self) -> Part
+        requires { textual (case_of (erase (node_of self))) ≡ true }
+        ensures { result ≡ part_of (node_of self.entry) }
+    {
+        let at = self.at;
+        let start = at.saturating_add(text_start(&self.bytes[at..]));
+        Part {
+            start,
+            len: self.end().saturating_sub(2).saturating_sub(start),
+        }
+    }
+
     /// Where the text of a leaf stands; of an integer its line; of what has no text no bytes at its place.
     pub fn text_part(self) -> Part
         ensures part { result ≡ part_of (node_of self.entry) }
@@ -90,7 +60,7 @@ impl<'a> Reply<'a> {
         ensures inside { result.start + result.len ≤ length self.entry.bytes.now }
     {
         if has_text(self.case()) {
-            return leaf_part(self.bytes, self.at);
+            return self.leaf_part();
         }
         Part {
             start: self.at,
@@ -107,12 +77,25 @@ impl<'a> Reply<'a> {
         &self.bytes[start..start + len]
     }
 
+    /// Where the format of a verbatim string begins: right after its first line.
+    fn format_start(self) -> usize
+        requires { case_of (erase (node_of self)) ≡ VerbatimString }
+        ensures inside { result + 3 ≤ length self.entry.bytes.now }
+        ensures format { take 3 (drop result self.entry.bytes.now) ≡ format_of (node_of self.entry) }
+    {
+        let at = self.at;
+        at.saturating_add(after_lf(&self.bytes[at..]))
+    }
+
     /// The format of a verbatim string; of another reply no bytes.
     pub fn format(self) -> &'a [u8]
         ensures { result.now ≡ format_of (node_of self.entry) }
     {
         match self.case() {
-            Case::VerbatimString => leaf_format(self.bytes, self.at),
+            Case::VerbatimString => {
+                let start = self.format_start();
+                &self.bytes[start..start + 3]
+            }
             _ => &self.bytes[..0],
         }
     }
@@ -122,7 +105,7 @@ impl<'a> Reply<'a> {
         ensures { result ≡ integer_in (node_of self.entry) }
     {
         match self.case() {
-            Case::Int => leaf_integer(self.bytes, self.at),
+            Case::Int => read_integer(self.text()),
             _ => None,
         }
     }

@@ -1,11 +1,10 @@
-ghost use Rattle.std.specs.Prelude.{◌≡◌, length};
+ghost use Rattle.std.specs.Prelude.{◌≡◌, false, length};
 ghost use Rattle.resp.specs.Cases.{case_of};
 ghost use Rattle.resp.specs.Node.{erase};
 ghost use Rattle.reply.specs.Parts.{flat_of, inner_of, key_of, parts_of, spot_of, unwrapped, value_of};
 ghost use Rattle.reply.specs.View.{node_of, nodes_of};
 
-use crate::ends::{reply_end, row_end};
-use crate::open::{Row, is_attribute, open_row, singles};
+use crate::open::singles;
 use crate::spot::Spot;
 use crate::view::{Items, Reply};
 use resp::{Case, case_of};
@@ -25,6 +24,8 @@ impl<'a> Reply<'a> {
     pub fn key(self) -> Reply<'a>
         ensures tree { node_of result ≡ key_of (node_of self.entry) }
         ensures bytes { result.bytes ≡ self.entry.bytes }
+        ensures place { result.at ≡ self.entry.at }
+        ensures single { result.pair ≡ false }
     {
         let key = self.at;
         Reply {
@@ -42,10 +43,9 @@ impl<'a> Reply<'a> {
         if !self.pair {
             return self;
         }
-        let at = reply_end(self.bytes, self.at);
         Reply {
             bytes: self.bytes,
-            at,
+            at: self.key().end(),
             pair: false,
         }
     }
@@ -56,20 +56,9 @@ impl<'a> Reply<'a> {
         ensures bytes { result.bytes ≡ self.entry.bytes }
     {
         if self.pair {
-            return Items {
-                bytes: self.bytes,
-                at: self.at,
-                left: 1,
-                pairs: true,
-            };
+            return self.alone();
         }
-        let Row { at, left, pairs } = open_row(self.bytes, self.at);
-        Items {
-            bytes: self.bytes,
-            at,
-            left,
-            pairs,
-        }
+        self.below()
     }
 
     /// The same with no pair by itself: the keys and the values of a map or an attribute one after another; of a pair its key and its value.
@@ -85,12 +74,11 @@ impl<'a> Reply<'a> {
                 pairs: false,
             };
         }
-        let Row { at, left, pairs } = open_row(self.bytes, self.at);
-        let count = singles(left, pairs);
+        let row = self.below();
         Items {
             bytes: self.bytes,
-            at,
-            left: count,
+            at: row.at,
+            left: singles(row.left, row.pairs),
             pairs: false,
         }
     }
@@ -103,20 +91,15 @@ impl<'a> Reply<'a> {
         if self.pair {
             return self.flat();
         }
-        let Row { at, left, pairs } = open_row(self.bytes, self.at);
-        if is_attribute(self.bytes, self.at) {
-            return Items {
-                bytes: self.bytes,
-                at,
-                left: 2 * left + 1,
-                pairs: false,
-            };
+        let row = self.below();
+        if !self.is_attribute() {
+            return row;
         }
         Items {
             bytes: self.bytes,
-            at,
-            left,
-            pairs,
+            at: row.at,
+            left: 2 * row.left + 1,
+            pairs: false,
         }
     }
 
@@ -125,14 +108,12 @@ impl<'a> Reply<'a> {
         ensures tree { node_of result ≡ unwrapped (node_of self.entry) }
         ensures bytes { result.bytes ≡ self.entry.bytes }
     {
-        if self.pair || !is_attribute(self.bytes, self.at) {
+        if !self.is_attribute() {
             return self;
         }
-        let Row { at, left, pairs } = open_row(self.bytes, self.at);
-        let end = row_end(self.bytes, at, left, pairs);
         Reply {
             bytes: self.bytes,
-            at: end,
+            at: self.below().end(),
             pair: false,
         }
     }
@@ -145,10 +126,7 @@ impl<'a> Reply<'a> {
             return Case::Map;
         }
         let at = self.at;
-        match case_of(&self.bytes[at..]) {
-            Some(case) => case,
-            None => Case::Nil,
-        }
+        case_of(&self.bytes[at..]).unwrap_or(Case::Nil)
     }
 }
 

@@ -1,67 +1,45 @@
-ghost use Rattle.std.specs.Prelude.{◌≡◌, ◌+◌, ◌-◌, ◌<◌, ◌∷◌};
-ghost use Rattle.reply.specs.Tree.{Ended};
-ghost use Rattle.reply.specs.View.{first_of, nil_node, node_of, nodes_of};
+ghost use Rattle.std.specs.Prelude.{◌≡◌, MatchOption};
+ghost use Rattle.std.specs.Iterator.{at_most};
+ghost use Rattle.reply.specs.Rows.{Over, Passes};
+ghost use Rattle.reply.specs.View.{nil_node, node_of};
 
-use crate::ends::view_end;
 use crate::view::{Items, Reply};
 
 /// A nil that is no part of any bytes handed in.
-pub(crate) fn nil<'a>() -> Reply<'a>
-    ensures { node_of result ≡ nil_node }
-{
-    Reply {
-        bytes: b"_\r\n",
-        at: 0,
-        pair: false,
+impl Default for Reply<'_> {
+    ghost is_default = { λ reply. node_of reply ≡ nil_node };
+
+    fn default() -> Self {
+        Reply {
+            bytes: b"_\r\n",
+            at: 0,
+            pair: false,
+        }
     }
 }
 
-impl<'a> Items<'a> {
-    /// The first of them; a nil where none is left.
-    pub(crate) fn first(self) -> Reply<'a>
-        ensures tree { node_of result ≡ first_of self.entry }
-        ensures bytes { 0 < self.entry.left → result.bytes ≡ self.entry.bytes }
-        ensures none { self.entry.left ≡ 0 → node_of result ≡ nil_node }
-    {
+impl<'a> Iterator for Items<'a> {
+    type Item = Reply<'a>;
+
+    ghost next_gives = { λ row first others. MatchOption first (Over row others) (λ reply. Passes row reply others) };
+
+    ghost remaining = { λ row. at_most row.left };
+
+    fn next(&mut self) -> Option<Reply<'a>> {
         if self.left == 0 {
-            return nil();
+            return None;
         }
-        Reply {
+        let reply = Reply {
             bytes: self.bytes,
             at: self.at,
             pair: self.pairs,
-        }
+        };
+        self.at = reply.end();
+        self.left -= 1;
+        Some(reply)
     }
 
-    /// Those after the first; none where none is left.
-    pub(crate) fn rest(self) -> Items<'a>
-        ensures left { result.left ≡ self.entry.left - 1 }
-        ensures items { 0 < self.entry.left → nodes_of self.entry ≡ first_of self.entry ∷ nodes_of result }
-        ensures bytes { result.bytes ≡ self.entry.bytes }
-        ensures place { 0 < self.entry.left → Ended self.entry.bytes.now self.entry.pairs self.entry.at result.at }
-    {
-        if self.left == 0 {
-            return self;
-        }
-        let end = view_end(self.bytes, self.at, self.pairs);
-        Items {
-            bytes: self.bytes,
-            at: end,
-            left: self.left - 1,
-            pairs: self.pairs,
-        }
-    }
-
-    /// The first, which is then passed by; a nil where none is left.
-    pub fn next(&mut self) -> Reply<'a>
-        ensures left { self.new.left ≡ self.old.left - 1 }
-        ensures items { 0 < self.old.left → nodes_of self.old ≡ node_of result ∷ nodes_of self.new }
-        ensures none { self.old.left ≡ 0 → node_of result ≡ nil_node }
-        ensures bytes { 0 < self.old.left → result.bytes ≡ self.old.bytes }
-        ensures stays { self.new.bytes ≡ self.old.bytes }
-    {
-        let reply = self.first();
-        *self = self.rest();
-        reply
+    fn size_hint(&self) -> (usize, Option<usize>) {
+        (self.left, Some(self.left))
     }
 }

@@ -1,12 +1,9 @@
-use Rattle.std.proofs.Common.{rules}
-use Rattle.reply.proofs.PartSteps.{lf_here, lf_more, lf_end}
+use Rattle.std.proofs.Common.{arith}
+use Rattle.reply.proofs.PartSteps.{lf_found}
 use Rattle.reply.proofs.line.after_lf.Goals as goal
 
-pub returns-then-byte-eq10 : goal.returns-then-byte-eq10
-returns-then-byte-eq10 c = lf_here c.args.bytes.now c.loop-i.i c.loop-i.invariant (search rules) (search rules)
+pub returns-in-Some : goal.returns-in-Some
+returns-in-Some c = let is = lf_found c.args.bytes.now _ c.in-Some.ensures in omega (arith, is)
 
-pub loop-i-preserved : goal.loop-i-preserved
-loop-i-preserved c = lf_more c.args.bytes.now c.loop-i.i c.loop-i.invariant (search rules) (search rules)
-
-pub returns : goal.returns
-returns c = lf_end c.args.bytes.now c.loop-i.i c.loop-i.invariant (search rules)
+pub returns-in-None : goal.returns-in-None
+returns-in-None c = lf_found c.args.bytes.now _ c.in-None.ensures

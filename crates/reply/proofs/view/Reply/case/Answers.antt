@@ -1,29 +1,24 @@
-use Rattle.std.proofs.Common.{Some, None, ap, ◌∙◌, subst}
+use Rattle.std.proofs.Common.{ap, ◌∙◌, subst}
 use Rattle.std.proofs.lemmas.List.{take_rest}
+use Rattle.std.specs.Option.{unwrap_or}
+use Rattle.resp.specs.declared.case.Case.TheVariants.{Nil}
 use Rattle.resp.specs.Cases.{case_of, Cased}
 use Rattle.resp.specs.Node.{erase}
 use Rattle.reply.specs.View.{node_of}
 use Rattle.reply.specs.Tree.{wholly}
 use Rattle.reply.proofs.Views.{pair_case, single}
-use Rattle.reply.proofs.Opening.{case_is, never_none}
+use Rattle.reply.proofs.Opening.{case_found}
 use Rattle.reply.proofs.view.Reply.case.Goals as goal
 
 pub returns-then-self : goal.returns-then-self
 unfolding node_of wholly
 returns-then-self c = pair_case c.args.self.bytes.now c.args.self.pair c.args.self.at c.if-self.true c.args.self.whole
 
-pub returns-in-Some : goal.returns-in-Some
+pub returns : goal.returns
 unfolding node_of wholly
-returns-in-Some c =
-    let bs = c.args.self.bytes.now in
-    let p = c.args.self.at in
-    let one = single bs c.args.self.pair p c.if-self.false c.args.self.whole in
-    case_is bs p c.args.self.inside one.0 c.in-Some.case (subst (λ l. Cased l (Some c.in-Some.case)) (take_rest bs p) c.in-Some.ensures.tree) ∙ ap (λ n. case_of (erase n)) one.1
-
-pub returns-in-None : goal.returns-in-None
-unfolding node_of wholly
-returns-in-None c =
-    let bs = c.args.self.bytes.now in
-    let p = c.args.self.at in
-    let one = single bs c.args.self.pair p c.if-self.false c.args.self.whole in
-    absurd (never_none bs p c.args.self.inside one.0 (subst (λ l. Cased l None) (take_rest bs p) c.in-None.ensures.tree))
+returns c =
+    let s = c.args.self in
+    let bs = s.bytes.now in
+    let one = single bs s.pair s.at c.if-self.false s.whole in
+    let is = case_found bs s.at one.0 c.case_of.result (subst (λ l. Cased l c.case_of.result) (take_rest bs s.at) c.case_of.ensures.tree) in
+    c.unwrap_or.ensures ∙ ap (λ o. unwrap_or o Nil) is ∙ ap (λ n. case_of (erase n)) one.1

@@ -2,6 +2,7 @@ use Rattle.std.proofs.Common.{false, refl, ap, ◌∙◌}
 use Rattle.reply.specs.Parts.{flat_of}
 use Rattle.reply.specs.View.{node_of, nodes_of}
 use Rattle.reply.specs.Tree.{wholly, wholly_row, nodes_at}
+use Rattle.reply.proofs.SingleRows.{singles_few}
 use Rattle.reply.proofs.Views.{pair_flat, single}
 use Rattle.reply.proofs.view.Reply.flat.Goals as goal
 
@@ -13,20 +14,18 @@ pub returns-then-self : goal.returns-then-self
 unfolding node_of nodes_of wholly
 returns-then-self c = record { trees = (pair_flat c.args.self.bytes.now c.args.self.pair c.args.self.at c.if-self.true c.args.self.whole).1; bytes = refl }
 
-pub singles-count-requires : goal.singles-count-requires
-singles-count-requires c =
-    let bs = c.args.self.bytes.now in
-    (c.open_row-at.ensures.spread (single bs c.args.self.pair c.args.self.at c.if-self.false c.args.self.whole).0).few
+pub singles-requires : goal.singles-requires
+singles-requires c = let few = c.below-row.ensures.spread.few in singles_few c.below-row.result.pairs c.below-row.result.left few
 
 pub invariant_of-result-2 : goal.invariant_of-result-2
 invariant_of-result-2 c =
-    let bs = c.args.self.bytes.now in
-    let h = (single bs c.args.self.pair c.args.self.at c.if-self.false c.args.self.whole).0 in
-    record { whole = ap (wholly_row bs false c.open_row-at.result.at) c.singles-count.ensures ∙ (c.open_row-at.ensures.spread h).singly; inside = (c.open_row-at.ensures.opened h).inside }
+    record { whole = ap (wholly_row c.args.self.bytes.now false c.below-row.result.at) c.singles.ensures ∙ c.below-row.ensures.spread.singly; inside = c.below-row.ensures.opened.inside }
 
 pub returns : goal.returns
 unfolding node_of nodes_of
 returns c =
-    let bs = c.args.self.bytes.now in
-    let one = single bs c.args.self.pair c.args.self.at c.if-self.false c.args.self.whole in
-    record { trees = ap (nodes_at bs false c.open_row-at.result.at) c.singles-count.ensures ∙ (c.open_row-at.ensures.spread one.0).flat ∙ ap flat_of one.1; bytes = refl }
+    let s = c.args.self in
+    record {
+      trees = ap (nodes_at s.bytes.now false c.below-row.result.at) c.singles.ensures ∙ c.below-row.ensures.spread.flat ∙ ap flat_of (single s.bytes.now s.pair s.at c.if-self.false s.whole).1;
+      bytes = refl;
+    }

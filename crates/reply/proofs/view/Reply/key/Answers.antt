@@ -11,4 +11,4 @@ invariant_of-result c = record { whole = first_read c.args.self.bytes.now c.args
 
 pub returns : goal.returns
 unfolding node_of wholly
-returns c = record { tree = key_is c.args.self.bytes.now c.args.self.pair c.args.self.at c.args.self.inside c.args.self.whole; bytes = refl }
+returns c = record { tree = key_is c.args.self.bytes.now c.args.self.pair c.args.self.at c.args.self.inside c.args.self.whole; bytes = refl; place = refl; single = refl }

@@ -1,11 +1,8 @@
 use Rattle.std.proofs.Common.{sym, ap, ◌∙◌}
-use Rattle.resp.specs.Cases.{case_of}
-use Rattle.resp.specs.Node.{erase}
-use Rattle.reply.specs.Parted.{part_of, textual}
+use Rattle.reply.specs.Parted.{textual}
 use Rattle.reply.specs.View.{node_of}
 use Rattle.reply.specs.Tree.{wholly, node_at}
-use Rattle.reply.proofs.Views.{single}
-use Rattle.reply.proofs.LeafParts.{no_part, text_single, start_at}
+use Rattle.reply.proofs.LeafParts.{no_part, start_at}
 use Rattle.reply.proofs.Sayings.{part_says}
 use Rattle.reply.proofs.view.Reply.text_part.Goals as goal
 
@@ -15,9 +12,7 @@ returns-then-has_text c =
     let bs = c.args.self.bytes.now in
     let p = c.args.self.at in
     let m = c.args.self.pair in
-    let text = ap textual (sym c.case.ensures) ∙ sym c.if-has_text.ensures in
-    let one = single bs m p (text_single bs m p c.args.self.whole text) c.args.self.whole in
-    let is = c.leaf_part.ensures c.args.self.inside one.0 (ap (λ n. textual (case_of (erase n))) one.1 ∙ text) ∙ ap part_of one.1 in
+    let is = c.leaf_part.ensures in
     let says = part_says bs m p c.args.self.inside c.args.self.whole c.leaf_part.result is in
     record { part = is; says = says.0; inside = says.1 }
 

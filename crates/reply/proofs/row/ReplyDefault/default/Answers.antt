@@ -1,7 +1,7 @@
 use Rattle.std.proofs.Common.{refl, arith}
 use Rattle.reply.specs.View.{node_of}
 use Rattle.reply.specs.Tree.{wholly, node_at}
-use Rattle.reply.proofs.row.nil.Goals as goal
+use Rattle.reply.proofs.row.ReplyDefault.default.Goals as goal
 
 pub invariant_of-result : goal.invariant_of-result
 unfolding wholly
