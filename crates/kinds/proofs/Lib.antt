@@ -1,4 +1,4 @@
-pub mod TextSteps
 pub mod RowSteps
 pub mod TupleSteps
 pub mod SameTexts
+pub mod Refusals

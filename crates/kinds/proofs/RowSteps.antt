@@ -1,16 +1,13 @@
 -- Rows of replies, one after another.
-use Rattle.std.proofs.Common.{◌≡◌, ℕ, zero, suc, ◌-◌, ◌<◌, List, [], ◌∷◌, take, drop, Result, sym, refl, ap, ◌∙◌, arith}
+use Rattle.std.proofs.Common.{◌≡◌, List, [], ◌∷◌, take, drop, Some, None, Option, Result, sym, refl, ap, ◌∙◌}
 use Rattle.resp.specs.Node.{Node}
+use Rattle.std.specs.Option.{MatchOption, UnwrapsOrElse}
 use Rattle.reply.specs.declared.view.Items.{Items}
-use Rattle.reply.specs.Tree.{nodes_at}
-use Rattle.reply.specs.View.{nodes_of, nil_node}
+use Rattle.reply.specs.declared.view.Reply.{Reply}
+use Rattle.reply.specs.Rows.{Over, Passes}
+use Rattle.reply.specs.View.{node_of, nodes_of, nil_node}
 use Rattle.kinds.specs.Rows.{first_by}
 use Rattle.kinds.specs.Rows.{first_node}
-
--- nothing is left
-pub none_left : (i : Items) → i.left ≡ 0 → nodes_of i ≡ []
-unfolding nodes_of nodes_at
-none_left i e = ap (λ k. nodes_at i.bytes.now i.pairs i.at k) e
 
 pub first_of : {V F : Type 0} (one : Node → Result V F) (ns : List Node) → one (first_node ns) ≡ first_by one ns
 first_of one [] = refl
@@ -25,15 +22,9 @@ pub record Passed (entry exit : Items) (n : Node) : Type 0 where
   pub first : n ≡ first_node (nodes_of entry)
   pub others : nodes_of exit ≡ drop 1 (nodes_of entry)
 
-pub passed : (entry exit : Items) (n : Node) → exit.left ≡ entry.left - 1 → (0 < entry.left → nodes_of entry ≡ n ∷ nodes_of exit)
-    → (entry.left ≡ 0 → n ≡ nil_node) → Passed entry exit n
-passed entry exit n l s z = by entry.left refl
-  where
-    by : (k : ℕ) → entry.left ≡ k → Passed entry exit n
-    by zero e =
-        let m : nodes_of entry ≡ [] = none_left entry e in
-        let x : nodes_of exit ≡ [] = none_left exit (omega arith) in
-        record { first = z e ∙ ap first_node (sym m); others = x ∙ ap (drop 1) (sym m) }
-    by (suc k) e =
-        let m : nodes_of entry ≡ n ∷ nodes_of exit = s (omega arith) in
-        record { first = ap first_node (sym m); others = ap (drop 1) (sym m) }
+pub passed : (entry exit : Items) (r : Option Reply) (x : Reply) → MatchOption r (Over entry exit) (λ reply. Passes entry reply exit) → UnwrapsOrElse r (λ reply. node_of reply ≡ nil_node) x
+    → Passed entry exit (node_of x)
+passed entry exit None x over nil =
+    record { first = nil ∙ ap first_node (sym over.items); others = ap nodes_of over.stays ∙ over.items ∙ ap (drop 1) (sym over.items) }
+passed entry exit (Some reply) x pass is =
+    record { first = ap node_of is ∙ ap first_node (sym pass.items); others = ap (drop 1) (sym pass.items) }

@@ -1,6 +1,6 @@
 -- Tuples, from whole lists and from cuts.
-use Rattle.std.proofs.Common.{◌≡◌, ℕ, suc, ◌<◌, ◌≤◌, true, false, cond, eqb, List, ◌∷◌, length, take, Err, Result, sym, ap, ◌∙◌, arith, eq-eqb, ne_eqb, eqb-true}
-use Rattle.std.proofs.lemmas.List.{length-take-le, take_all}
+use Rattle.std.proofs.Common.{◌≡◌, ℕ, suc, ◌≤◌, true, false, cond, eqb, List, length, take, Err, Result, sym, ap, ◌∙◌, arith, ne_eqb, eqb-true}
+use Rattle.std.proofs.lemmas.List.{take_all}
 use Rattle.resp.specs.Node.{Node}
 use Rattle.reply.specs.declared.spot.Spot.{Spot}
 use Rattle.reply.specs.Parts.{flat_of, spot_of, unwrapped}
@@ -8,7 +8,7 @@ use Rattle.kinds.specs.declared.fault.ElementReason.TheVariants.{Count, Kind}
 use Rattle.kinds.specs.declared.fault.Fault.{Fault}
 use Rattle.kinds.specs.Fault.{refused}
 use Rattle.kinds.specs.Texts.{case_at}
-use Rattle.kinds.specs.Tuples.{exactly, holds, is_tuple, tuple_flat, tuple_joined, tuple_one}
+use Rattle.kinds.specs.Tuples.{exactly, holds, tuple_joined, tuple_one}
 
 module _ {V : Type 0} (m : ℕ) (fields : List Node → Result V Fault) where
   pub too_few : (p : Spot) (ns : List Node) → length ns ≤ m → Err (refused Count p) ≡ tuple_joined m fields p (take (suc m) ns)
@@ -18,21 +18,10 @@ module _ {V : Type 0} (m : ℕ) (fields : List Node → Result V Fault) where
       ap (λ b. cond b (fields ns) (Err (refused Count p))) (sym q)
       ∙ ap (tuple_joined m fields p) (sym t)
 
-  pub enough : (p : Spot) (ns : List Node) → m < length ns → fields (take (suc m) ns) ≡ tuple_joined m fields p (take (suc m) ns)
-  enough p ns h =
-      let q : eqb (length (take (suc m) ns)) (suc m) ≡ true = eq-eqb _ (suc m) (length-take-le (suc m) ns (omega arith)) in
-      ap (λ b. cond b (fields (take (suc m) ns)) (Err (refused Count p))) (sym q)
-
   pub all_of : (p : Spot) (ns : List Node) → eqb (length ns) (suc m) ≡ true → fields (take (suc m) ns) ≡ exactly m p fields ns
   all_of p ns h =
       let l : length ns ≡ suc m = eqb-true (length ns) (suc m) h in
       ap fields (take_all (suc m) ns (omega arith)) ∙ ap (λ b. cond b (fields ns) (Err (refused Count p))) (sym h)
-
-pub flat_step : (m : ℕ) (n : Node) (ns ms : List Node) → ms ≡ n ∷ ns → is_tuple m n ≡ true → tuple_flat m ms ≡ tuple_flat m ns
-flat_step m n ns ms e t = ap (tuple_flat m) e ∙ ap (λ b. cond b (tuple_flat m ns) true) t
-
-pub flat_here : (m : ℕ) (n : Node) (ns ms : List Node) → ms ≡ n ∷ ns → is_tuple m n ≡ false → tuple_flat m ms ≡ true
-flat_here m n ns ms e t = ap (tuple_flat m) e ∙ ap (λ b. cond b (tuple_flat m ns) true) t
 
 pub whole_tuple : {V : Type 0} (m : ℕ) (fields : List Node → Result V Fault) (n inner : Node) (ns : List Node) (r : Result V Fault) → inner ≡ unwrapped n → ns ≡ flat_of inner
     → true ≡ holds (case_at inner) → true ≡ eqb (length ns) (suc m) → r ≡ fields (take (suc m) ns) → r ≡ tuple_one m fields n

@@ -1,5 +1,7 @@
 -- Refusals, and their numbers.
 use Rattle.std.specs.Prelude.{ℕ}
+use Rattle.decimals.specs.declared.fault.FloatFault.{FloatFault}
+use Rattle.decimals.specs.declared.fault.FloatFault.TheVariants as float
 use Rattle.reply.specs.declared.spot.Spot.{Spot}
 use Rattle.resp.specs.Answer as wire
 use Rattle.kinds.specs.declared.fault.ElementReason.{ElementReason}
@@ -37,3 +39,8 @@ fault_number (Record f) = record_number f.reason
 -- an element fault at a spot
 abbrev pub refused : ElementReason → Spot → Fault
 refused r p = Element (record { reason = r; spot = p })
+
+-- why a float is refused: no number, or not exact
+abbrev pub float_reason : FloatFault → ElementReason
+float_reason float.NotNumber = Text
+float_reason float.Inexact = Inexact

@@ -1,7 +1,6 @@
 -- What the number kinds read.
-use Rattle.std.specs.Prelude.{ℕ, Bool, List, ℤ, pos, negsuc, ◌≤ℤ◌, Some, None, Ok, Err, Option, Result, int_lt, unsigned_abs, Float}
+use Rattle.std.specs.Prelude.{ℕ, Bool, List, ℤ, pos, negsuc, ◌≤ℤ◌, Some, None, Ok, Err, Option, Result, int_lt, ok_or, unsigned_abs, Float}
 use Rattle.decimals.specs.declared.fault.FloatFault.{FloatFault}
-use Rattle.decimals.specs.declared.fault.FloatFault.TheVariants as float
 use Rattle.decimals.specs.Decimal.{read_double, read_float}
 use Rattle.decimals.specs.Floats.{exact_float, whole_float_capped}
 use Rattle.decimals.specs.Whole.{in_range, whole_capped}
@@ -14,17 +13,16 @@ use Rattle.reply.specs.Parted.{integer_in}
 use Rattle.utf8.specs.Scan.{ill_formed}
 use Rattle.kinds.specs.declared.bounds.Bounds.{Bounds}
 use Rattle.kinds.specs.declared.fault.ElementReason.{ElementReason}
-use Rattle.kinds.specs.declared.fault.ElementReason.TheVariants.{Kind, Text, Range, Inexact}
+use Rattle.kinds.specs.declared.fault.ElementReason.TheVariants.{Kind, Text, Range}
 use Rattle.kinds.specs.declared.fault.Fault.{Fault}
-use Rattle.kinds.specs.Fault.{refused}
+use Rattle.kinds.specs.Fault.{float_reason, refused}
 use Rattle.kinds.specs.Plain.{utf8_by}
 use Rattle.kinds.specs.Same.{eqℤ, same_read}
 use Rattle.kinds.specs.Texts.{case_at, text_in}
 
 -- what there is, or a refusal
 abbrev pub or_refuse : {V : Type 0} → ElementReason → Spot → Option V → Result V Fault
-or_refuse reason p (Some v) = Ok v
-or_refuse reason p None = Err (refused reason p)
+or_refuse reason p v = ok_or v (refused reason p)
 
 -- the number, where it is within the bounds
 abbrev pub between : Bounds → Option ℤ → Option ℤ
@@ -34,10 +32,9 @@ between b z = in_range b.low b.high z
 unfoldable pub text_integer : Spot → Bounds → List ℕ → Result ℤ Fault
 text_integer p b c = or_refuse Text p (between b (whole_capped (int_lt b.low (pos 0)) c))
 
--- a float that is refused: no number, or not exact
+-- a float that is refused
 abbrev pub float_fault : Spot → FloatFault → Fault
-float_fault p float.NotNumber = refused Text p
-float_fault p float.Inexact = refused Inexact p
+float_fault p f = refused (float_reason f) p
 
 abbrev pub float_or : {V : Type 0} → Spot → (Float → Result V Fault) → Result Float FloatFault → Result V Fault
 float_or p k (Ok x) = k x
@@ -72,10 +69,14 @@ integer_by p b z t case.ServerError = Err (refused Kind p)
 abbrev pub integer_one : Bounds → Node → Result ℤ Fault
 integer_one b n = integer_by (spot_of n) b (integer_in (unwrapped n)) (text_in (unwrapped n)) (case_at (unwrapped n))
 
+-- an integer as the value of a type of integers
+abbrev pub narrowed : {V : Type 0} → (ℤ → V) → Result ℤ Fault → Result V Fault
+narrowed narrow (Ok z) = Ok (narrow z)
+narrowed narrow (Err f) = Err f
+
 -- the same of an unsigned kind
 abbrev pub natural : Result ℤ Fault → Result ℕ Fault
-natural (Ok z) = Ok (unsigned_abs z)
-natural (Err f) = Err f
+natural r = narrowed unsigned_abs r
 
 abbrev pub natural_one : Bounds → Node → Result ℕ Fault
 natural_one b n = natural (integer_one b n)

@@ -11,7 +11,7 @@ pub fn read_next<K: FromRedisValue>(kind: &K, items: &mut Items<'_>) -> Result<K
     ensures value { result ≡ first_by (K.FromRedisValue.one kind.now) (nodes_of items.old) }
     ensures rest { nodes_of items.new ≡ drop 1 (nodes_of items.old) }
 {
-    kind.from_redis_value(items.next())
+    kind.from_redis_value(items.next().unwrap_or_default())
 }
 
 /// The same as a row: how a kind reads that is never cut.

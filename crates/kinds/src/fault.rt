@@ -1,13 +1,14 @@
 ghost use Rattle.std.specs.Prelude.{◌≡◌};
 ghost use Rattle.kinds.specs.declared.fault.Below.TheVariants as below;
 ghost use Rattle.kinds.specs.declared.fault.Fault.TheVariants as fault;
-ghost use Rattle.kinds.specs.Fault.{element_number, fault_number, intake_number, record_number};
+ghost use Rattle.kinds.specs.Fault.{element_number, fault_number, float_reason, intake_number, record_number};
 
+use decimals::FloatFault;
 use reply::Spot;
 use resp::WireFault;
 
 /// Why a kind refuses a reply, by number.
-#[derive(Clone, Copy)]
+#[derive(Clone, Copy, PartialEq, Eq, Debug)]
 pub enum ElementReason {
     /// A case of reply that the kind doesn't read.
     Kind = 20,
@@ -24,14 +25,14 @@ pub enum ElementReason {
 }
 
 /// A refusal of a kind: why, and where the reply begins that was handed to it.
-#[derive(Clone, Copy)]
+#[derive(Clone, Copy, PartialEq, Eq, Debug)]
 pub struct ElementFault {
     pub reason: ElementReason,
     pub spot: Spot,
 }
 
 /// Why a call refuses, by number. It has no place.
-#[derive(Clone, Copy)]
+#[derive(Clone, Copy, PartialEq, Eq, Debug)]
 pub enum IntakeReason {
     /// More rows than the table has.
     Table = 26,
@@ -40,7 +41,7 @@ pub enum IntakeReason {
 }
 
 /// Why a record refuses, by number.
-#[derive(Clone, Copy)]
+#[derive(Clone, Copy, PartialEq, Eq, Debug)]
 pub enum RecordReason {
     /// Any other reason than these two.
     Other = 30,
@@ -51,7 +52,7 @@ pub enum RecordReason {
 }
 
 /// The records.
-#[derive(Clone, Copy)]
+#[derive(Clone, Copy, PartialEq, Eq, Debug)]
 pub enum Record {
     Role,
     ReplicaInfo,
@@ -70,7 +71,7 @@ pub enum Record {
 }
 
 /// The fault below a record's.
-#[derive(Clone, Copy)]
+#[derive(Clone, Copy, PartialEq, Eq, Debug)]
 pub enum Below {
     Wire(WireFault),
     Element(ElementFault),
@@ -78,7 +79,7 @@ pub enum Below {
 
 /// A refusal of a record: why, which record and which of its fields (from 1; 0 is the record itself), where its reply
 /// begins, and the fault below it, if there is one.
-#[derive(Clone, Copy)]
+#[derive(Clone, Copy, PartialEq, Eq, Debug)]
 pub struct RecordFault {
     pub reason: RecordReason,
     pub record: Record,
@@ -88,7 +89,7 @@ pub struct RecordFault {
 }
 
 /// A refusal, by the layer that refuses.
-#[derive(Clone, Copy)]
+#[derive(Clone, Copy, PartialEq, Eq, Debug)]
 pub enum Fault {
     Intake(IntakeReason),
     Wire(WireFault),
@@ -106,6 +107,17 @@ impl Fault {
             Fault::Wire(fault) => fault.reason.number(),
             Fault::Element(fault) => fault.reason as u8,
             Fault::Record(fault) => fault.reason as u8,
+        }
+    }
+}
+
+impl From<FloatFault> for ElementReason {
+    ghost from_gives = { λ f r. r ≡ float_reason f };
+
+    fn from(fault: FloatFault) -> ElementReason {
+        match fault {
+            FloatFault::NotNumber => ElementReason::Text,
+            FloatFault::Inexact => ElementReason::Inexact,
         }
     }
 }

@@ -1,10 +1,11 @@
-ghost use Rattle.std.specs.Prelude.{◌≡◌, ℕ, suc, Bool, true, List, [], take, drop, is_ok, Ok, Option, Result};
+ghost use Rattle.std.specs.Prelude.{◌≡◌, ℕ, suc, Bool, true, false, List, [], take, drop, is_ok, Ok, None, Option, Result, refl};
 ghost use Rattle.resp.specs.Node.{Node};
 ghost use Rattle.reply.specs.declared.spot.Spot.{Spot};
 ghost use Rattle.reply.specs.View.{node_of, nodes_of};
-ghost use Rattle.kinds.specs.Rows.{byte_by, many_of};
+ghost use Rattle.kinds.specs.Rows.{byte_by, first_by, many_of};
 ghost use Rattle.kinds.specs.declared.fault.Fault.{Fault};
 
+use crate::each::join_one;
 use crate::fault::Fault;
 use reply::{Items, Reply, Spot};
 
@@ -45,4 +46,31 @@ pub trait Rows: FromRedisValue {
 
     fn of_byte(&self, byte: u8) -> Option<Self::Value>
         ensures { result ≡ byte_by (bytewise self.now) byte };
+}
+
+/// A kind that is never cut, and takes no byte string apart: each reply of a list is a row.
+pub trait Single: FromRedisValue {}
+
+impl<K: Single> Rows for K {
+    ghost flat = { λ _ _. false };
+
+    ghost more = { λ _. 0 };
+
+    ghost joined = { λ k _. first_by (K.FromRedisValue.one k) };
+
+    ghost bytewise = { λ _. None };
+
+    ghost none = { λ _ _. refl };
+
+    fn is_flat(&self, _items: Items<'_>) -> bool {
+        false
+    }
+
+    fn join(&self, _first: Spot, items: &mut Items<'_>) -> Result<K::Value, Fault> {
+        join_one(self, items)
+    }
+
+    fn of_byte(&self, _byte: u8) -> Option<K::Value> {
+        None
+    }
 }

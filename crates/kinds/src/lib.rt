@@ -6,6 +6,7 @@ mod bounds;
 mod each;
 mod fault;
 mod fault_at;
+mod integer;
 mod ints;
 mod kind;
 mod number;
@@ -23,8 +24,9 @@ pub use fault::{
     Below, ElementFault, ElementReason, Fault, IntakeReason, Record, RecordFault, RecordReason,
 };
 pub use fault_at::{refuse, refuse_at};
-pub use ints::{F64, I8, I64, U8, U16, U64};
-pub use kind::{FromRedisValue, Rows};
+pub use integer::Width;
+pub use ints::{F64, I8, I64, Integer, U8, U16, U64};
+pub use kind::{FromRedisValue, Rows, Single};
 pub use number::{float_number, whole_number};
 pub use optional::Optional;
 pub use plain::{Bool, Nothing, Text, Value};

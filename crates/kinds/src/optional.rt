@@ -1,11 +1,8 @@
-ghost use Rattle.std.specs.Prelude.{false, None, refl};
 ghost use Rattle.kinds.specs.Plain.{option_one};
-ghost use Rattle.kinds.specs.Rows.{first_by};
 
-use crate::each::join_one;
 use crate::fault::Fault;
-use crate::kind::{FromRedisValue, Rows};
-use reply::{Items, Reply, Spot};
+use crate::kind::{FromRedisValue, Single};
+use reply::Reply;
 use resp::Case;
 
 /// What K reads, or none of a nil.
@@ -26,26 +23,4 @@ impl<K: FromRedisValue> FromRedisValue for Optional<K> {
     }
 }
 
-impl<K: FromRedisValue> Rows for Optional<K> {
-    ghost flat = { λ _ _. false };
-
-    ghost more = { λ _. 0 };
-
-    ghost joined = { λ k _. first_by (Self.FromRedisValue.one k) };
-
-    ghost bytewise = { λ _. None };
-
-    ghost none = { λ _ _. refl };
-
-    fn is_flat(&self, _items: Items<'_>) -> bool {
-        false
-    }
-
-    fn join(&self, _first: Spot, items: &mut Items<'_>) -> Result<Option<K::Value>, Fault> {
-        join_one(self, items)
-    }
-
-    fn of_byte(&self, _byte: u8) -> Option<Option<K::Value>> {
-        None
-    }
-}
+impl<K: FromRedisValue> Single for Optional<K> {}

@@ -1,15 +1,13 @@
-ghost use Rattle.std.specs.Prelude.{◌≡◌, false, None, refl};
+ghost use Rattle.std.specs.Prelude.{◌≡◌};
 ghost use Rattle.reply.specs.Parts.{spot_of};
 ghost use Rattle.reply.specs.View.{node_of};
 ghost use Rattle.kinds.specs.Plain.{bool_one, digit_bool, is_true, nonzero, text_one, unit_one, value_one};
-ghost use Rattle.kinds.specs.Rows.{first_by};
 
-use crate::each::join_one;
 use crate::fault::{ElementReason, Fault};
 use crate::fault_at::refuse;
-use crate::kind::{FromRedisValue, Rows};
-use crate::text::text_of;
-use reply::{Items, Part, Reply, Spot};
+use crate::kind::{FromRedisValue, Single};
+use crate::text::{check_utf8, text_of};
+use reply::{Part, Reply, Spot};
 use resp::Case;
 
 /// Text, in place.
@@ -24,10 +22,10 @@ impl FromRedisValue for Text {
     fn from_redis_value(&self, reply: Reply<'_>) -> Result<Part, Fault> {
         let inner = reply.unwrapped();
         match inner.case() {
-            Case::BulkString => match utf8::ill_formed(text_of(inner)) {
-                None => Ok(inner.text_part()),
-                Some(_) => Err(refuse(ElementReason::NotUtf8, reply)),
-            },
+            Case::BulkString => {
+                check_utf8(reply, text_of(inner))?;
+                Ok(inner.text_part())
+            }
             Case::SimpleString | Case::Okay | Case::VerbatimString | Case::Int => {
                 Ok(inner.text_part())
             }
@@ -36,29 +34,7 @@ impl FromRedisValue for Text {
     }
 }
 
-impl Rows for Text {
-    ghost flat = { λ _ _. false };
-
-    ghost more = { λ _. 0 };
-
-    ghost joined = { λ k _. first_by (Self.FromRedisValue.one k) };
-
-    ghost bytewise = { λ _. None };
-
-    ghost none = { λ _ _. refl };
-
-    fn is_flat(&self, _items: Items<'_>) -> bool {
-        false
-    }
-
-    fn join(&self, _first: Spot, items: &mut Items<'_>) -> Result<Part, Fault> {
-        join_one(self, items)
-    }
-
-    fn of_byte(&self, _byte: u8) -> Option<Part> {
-        None
-    }
-}
+impl Single for Text {}
 
 /// A boolean.
 #[derive(Clone, Copy)]
@@ -85,10 +61,7 @@ impl FromRedisValue for Bool {
 fn is_nonzero(number: Option<i64>) -> bool
     ensures { result ≡ nonzero number }
 {
-    match number {
-        Some(value) => value != 0,
-        None => false,
-    }
+    number.is_some_and(|value| value != 0)
 }
 
 /// Whether it is the line of true.
@@ -109,29 +82,7 @@ fn digit_bool(reply: Reply<'_>, text: &[u8]) -> Result<bool, Fault>
     }
 }
 
-impl Rows for Bool {
-    ghost flat = { λ _ _. false };
-
-    ghost more = { λ _. 0 };
-
-    ghost joined = { λ k _. first_by (Self.FromRedisValue.one k) };
-
-    ghost bytewise = { λ _. None };
-
-    ghost none = { λ _ _. refl };
-
-    fn is_flat(&self, _items: Items<'_>) -> bool {
-        false
-    }
-
-    fn join(&self, _first: Spot, items: &mut Items<'_>) -> Result<bool, Fault> {
-        join_one(self, items)
-    }
-
-    fn of_byte(&self, _byte: u8) -> Option<bool> {
-        None
-    }
-}
+impl Single for Bool {}
 
 /// No value: any reply but an error.
 #[derive(Clone, Copy)]
@@ -150,29 +101,7 @@ impl FromRedisValue for Nothing {
     }
 }
 
-impl Rows for Nothing {
-    ghost flat = { λ _ _. false };
-
-    ghost more = { λ _. 0 };
-
-    ghost joined = { λ k _. first_by (Self.FromRedisValue.one k) };
-
-    ghost bytewise = { λ _. None };
-
-    ghost none = { λ _ _. refl };
-
-    fn is_flat(&self, _items: Items<'_>) -> bool {
-        false
-    }
-
-    fn join(&self, _first: Spot, items: &mut Items<'_>) -> Result<(), Fault> {
-        join_one(self, items)
-    }
-
-    fn of_byte(&self, _byte: u8) -> Option<()> {
-        None
-    }
-}
+impl Single for Nothing {}
 
 /// Any reply, as its place.
 #[derive(Clone, Copy)]
@@ -188,26 +117,4 @@ impl FromRedisValue for Value {
     }
 }
 
-impl Rows for Value {
-    ghost flat = { λ _ _. false };
-
-    ghost more = { λ _. 0 };
-
-    ghost joined = { λ k _. first_by (Self.FromRedisValue.one k) };
-
-    ghost bytewise = { λ _. None };
-
-    ghost none = { λ _ _. refl };
-
-    fn is_flat(&self, _items: Items<'_>) -> bool {
-        false
-    }
-
-    fn join(&self, _first: Spot, items: &mut Items<'_>) -> Result<Spot, Fault> {
-        join_one(self, items)
-    }
-
-    fn of_byte(&self, _byte: u8) -> Option<Spot> {
-        None
-    }
-}
+impl Single for Value {}

@@ -1,9 +1,10 @@
 ghost use Rattle.std.specs.Prelude.{◌≡◌, Bool, drop};
 ghost use Rattle.resp.specs.Node.{Node};
 ghost use Rattle.reply.specs.View.{node_of, nodes_of};
-ghost use Rattle.kinds.specs.Same.{Equality};
+ghost use Rattle.kinds.specs.Same.{Equality, same_read};
 ghost use Rattle.kinds.specs.Rows.{first_node};
 
+use crate::fault::Fault;
 use crate::kind::FromRedisValue;
 use reply::{Items, Reply};
 
@@ -24,5 +25,17 @@ pub fn same_next<K: Same>(kind: &K, a: &mut Items<'_>, b: &mut Items<'_>) -> boo
     ensures first { nodes_of a.new ≡ drop 1 (nodes_of a.old) }
     ensures second { nodes_of b.new ≡ drop 1 (nodes_of b.old) }
 {
-    kind.is_same(a.next(), b.next())
+    let first = a.next().unwrap_or_default();
+    kind.is_same(first, b.next().unwrap_or_default())
+}
+
+/// Whether both are read, as equal values, or neither is.
+pub(crate) fn same_read<V: PartialEq + Copy>(a: Result<V, Fault>, b: Result<V, Fault>) -> bool
+    ensures { result ≡ same_read V.PartialEq.eq a b }
+{
+    match (a, b) {
+        (Ok(x), Ok(y)) => x == y,
+        (Err(_), Err(_)) => true,
+        _ => false,
+    }
 }

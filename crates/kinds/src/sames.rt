@@ -1,14 +1,13 @@
 ghost use Rattle.std.specs.Prelude.{◌≡◌, true};
-ghost use Rattle.std.specs.Bool.{beq};
 ghost use Rattle.std.specs.Str.{bytes_eq};
 ghost use Rattle.reply.specs.View.{node_of};
-ghost use Rattle.kinds.specs.Same.{is_nil, same2, same3, same4, same_bool, same_key, same_option, same_parts, same_read, same_text, text_key};
+ghost use Rattle.kinds.specs.Same.{is_nil, same2, same3, same4, same_bool, same_key, same_option, same_parts, same_text, text_key};
 ghost use Rattle.kinds.specs.Equalities.{bool_equality, always_equality, text_equality, option_equality, equality2, parts_equality, equality3, equality4};
 
 use crate::kind::FromRedisValue;
 use crate::optional::Optional;
 use crate::plain::{Bool, Nothing, Text};
-use crate::same::{Same, same_next};
+use crate::same::{Same, same_next, same_read};
 use reply::Reply;
 use resp::Case;
 
@@ -18,20 +17,7 @@ impl Same for Bool {
     ghost equality = { λ k. bool_equality };
 
     fn is_same(&self, a: Reply<'_>, b: Reply<'_>) -> bool {
-        same_bools(self.from_redis_value(a), self.from_redis_value(b))
-    }
-}
-
-/// Whether both are read, as equal values, or neither is.
-fn same_bools(a: Result<bool, crate::fault::Fault>, b: Result<bool, crate::fault::Fault>) -> bool
-    ensures { result ≡ same_read beq a b }
-{
-    match a {
-        Ok(x) => match b {
-            Ok(y) => x == y,
-            Err(_) => false,
-        },
-        Err(_) => b.is_err(),
+        same_read(self.from_redis_value(a), self.from_redis_value(b))
     }
 }
 

@@ -2,9 +2,8 @@ ghost use Rattle.std.specs.Prelude.{◌≡◌, ℕ, suc, true, List, length, tak
 ghost use Rattle.resp.specs.Node.{Node};
 ghost use Rattle.reply.specs.View.{node_of, nodes_of};
 ghost use Rattle.kinds.specs.declared.fault.Fault.{Fault};
-ghost use Rattle.kinds.specs.Tuples.{fields2, fields3, fields4, holds, is_tuple, tuple_flat, tuple_joined, tuple_one};
+ghost use Rattle.kinds.specs.Tuples.{holds, is_tuple, tuple_flat, tuple_joined, tuple_one};
 
-use crate::each::read_next;
 use crate::fault::{ElementReason, Fault};
 use crate::fault_at::{refuse, refuse_at};
 use crate::kind::FromRedisValue;
@@ -66,14 +65,23 @@ pub fn tuple_one<T: Tuple>(tuple: &T, reply: Reply<'_>) -> Result<T::Value, Faul
     tuple.read_fields(&mut items)
 }
 
+impl<T: Tuple> FromRedisValue for T {
+    type Value = T::Value;
+
+    ghost one = { λ k. tuple_one (T.Tuple.beside k) (T.Tuple.fields k) };
+
+    fn from_redis_value(&self, reply: Reply<'_>) -> Result<T::Value, Fault> {
+        tuple_one(self, reply)
+    }
+}
+
 /// Whether a list of replies is cut flat: not all are tuples.
 pub fn tuple_flat<T: Tuple>(tuple: &T, items: Items<'_>) -> bool
     ensures { result ≡ tuple_flat (T.Tuple.beside tuple.now) (nodes_of items.entry) }
 {
     let beside = tuple.beside_first();
-    let mut rest = items;
-    while rest.len() > 0 {
-        if !is_tuple(rest.next(), beside) {
+    for reply in items {
+        if !is_tuple(reply, beside) {
             return true;
         }
     }

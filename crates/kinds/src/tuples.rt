@@ -1,10 +1,10 @@
 ghost use Rattle.std.specs.Prelude.{None, refl};
-ghost use Rattle.kinds.specs.Tuples.{fields2, fields3, fields4, tuple_flat, tuple_joined, tuple_one};
+ghost use Rattle.kinds.specs.Tuples.{fields2, fields3, fields4, tuple_flat, tuple_joined};
 
 use crate::each::read_next;
 use crate::fault::Fault;
 use crate::kind::{FromRedisValue, Rows};
-use crate::tuple::{Tuple, tuple_flat, tuple_join, tuple_one};
+use crate::tuple::{Tuple, tuple_flat, tuple_join};
 use reply::{Items, Reply, Spot};
 
 impl<A: FromRedisValue, B: FromRedisValue> Tuple for (A, B) {
@@ -22,16 +22,6 @@ impl<A: FromRedisValue, B: FromRedisValue> Tuple for (A, B) {
         let first = read_next(&self.0, items)?;
         let second = read_next(&self.1, items)?;
         Ok((first, second))
-    }
-}
-
-impl<A: FromRedisValue, B: FromRedisValue> FromRedisValue for (A, B) {
-    type Value = (A::Value, B::Value);
-
-    ghost one = { λ k. tuple_one 1 (fields2 (A.FromRedisValue.one k.0) (B.FromRedisValue.one k.1)) };
-
-    fn from_redis_value(&self, reply: Reply<'_>) -> Result<(A::Value, B::Value), Fault> {
-        tuple_one(self, reply)
     }
 }
 
@@ -75,16 +65,6 @@ impl<A: FromRedisValue, B: FromRedisValue, C: FromRedisValue> Tuple for (A, B, C
         let second = read_next(&self.1, items)?;
         let third = read_next(&self.2, items)?;
         Ok((first, second, third))
-    }
-}
-
-impl<A: FromRedisValue, B: FromRedisValue, C: FromRedisValue> FromRedisValue for (A, B, C) {
-    type Value = (A::Value, B::Value, C::Value);
-
-    ghost one = { λ k. tuple_one 2 (fields3 (A.FromRedisValue.one k.0) (B.FromRedisValue.one k.1) (C.FromRedisValue.one k.2)) };
-
-    fn from_redis_value(&self, reply: Reply<'_>) -> Result<(A::Value, B::Value, C::Value), Fault> {
-        tuple_one(self, reply)
     }
 }
 
@@ -137,20 +117,6 @@ impl<A: FromRedisValue, B: FromRedisValue, C: FromRedisValue, D: FromRedisValue>
         let third = read_next(&self.2, items)?;
         let fourth = read_next(&self.3, items)?;
         Ok((first, second, third, fourth))
-    }
-}
-
-impl<A: FromRedisValue, B: FromRedisValue, C: FromRedisValue, D: FromRedisValue> FromRedisValue
-    for (A, B, C, D) {
-    type Value = (A::Value, B::Value, C::Value, D::Value);
-
-    ghost one = { λ k. tuple_one 3 (fields4 (A.FromRedisValue.one k.0) (B.FromRedisValue.one k.1) (C.FromRedisValue.one k.2) (D.FromRedisValue.one k.3)) };
-
-    fn from_redis_value(
-        &self,
-        reply: Reply<'_>,
-    ) -> Result<(A::Value, B::Value, C::Value, D::Value), Fault> {
-        tuple_one(self, reply)
     }
 }
 

@@ -1,4 +1,5 @@
 use Rattle.std.proofs.Common.{ap, ◌∙◌}
+use Rattle.std.specs.Option.{ok_or}
 use Rattle.decimals.specs.Whole.{whole_capped}
 use Rattle.reply.specs.Parts.{spot_of}
 use Rattle.reply.specs.View.{node_of}
@@ -9,5 +10,6 @@ use Rattle.kinds.proofs.number.text_integer.Goals as goal
 pub returns : goal.returns
 unfolding text_integer
 returns c =
-    let p = spot_of (node_of c.args.reply) in
-    c.or_refuse.ensures ∙ ap (or_refuse Text p) (c.in_range-number.ensures ∙ ap (between c.args.bounds) (c.read_whole.ensures ∙ ap (λ s. whole_capped s c.args.text.now) c.is_signed.ensures))
+    c.ok_or.ensures.value
+    ∙ ap (ok_or c.in_range-number.result) c.refuse.ensures
+    ∙ ap (or_refuse Text (spot_of (node_of c.args.reply))) (c.in_range-number.ensures ∙ ap (between c.args.bounds) (c.read_whole.ensures ∙ ap (λ s. whole_capped s c.args.text.now) c.are_signed.ensures))
