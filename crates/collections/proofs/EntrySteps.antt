@@ -1,15 +1,10 @@
 -- The entries of a map, read one by one up to the first refusal.
-use Rattle.std.proofs.Common.{◌≡◌, Bool, List, ◌∷◌, None, Ok, Err, Option, Result, sym, refl, ap, ◌∙◌, subst}
+use Rattle.std.proofs.Common.{◌≡◌, List, ◌∷◌, Ok, Err, Result, sym, refl, ap, ◌∙◌}
 use Rattle.resp.specs.Node.{Node}
-use Rattle.reply.specs.declared.view.Items.{Items}
-use Rattle.reply.specs.View.{nodes_of}
 use Rattle.kinds.specs.declared.fault.Fault.{Fault}
 use Rattle.kinds.specs.Rows.{and_then, onto, many_by}
-use Rattle.collections.specs.declared.cursor.Cursor.{Cursor}
-use Rattle.collections.specs.declared.cursor.Mode.TheVariants.{Each}
-use Rattle.collections.specs.Maps.{entries, entry_one, map_left, map_of, merged_in}
-use Rattle.collections.specs.Sets.{replies_only}
-use Rattle.collections.specs.Steps.{Starts, judged}
+use Rattle.collections.specs.Maps.{entries}
+use Rattle.collections.specs.Steps.{judged}
 
 judged_onto : {V : Type 0} (v : V) (r : Result (List V) Fault) → judged (onto v r) ≡ judged r
 judged_onto v (Ok vs) = refl
@@ -36,18 +31,3 @@ done r k w u e same = let p = judged_ok r u e in ap (λ o. and_then o k) p.1 ∙
 
 pub stopped : {V W : Type 0} (r : Result (List V) Fault) (k : List V → Result W Fault) (f : Fault) → Err f ≡ judged r → and_then r k ≡ Err f
 stopped r k f e = ap (λ o. and_then o k) (judged_err r f e)
-
--- the cursor over entries that are all read has the map's rows before it
-pub begins :
-    {A B : Type 0} (key : Node → Result A Fault) (value : Node → Result B Fault) (alike : Node → Node → Bool) (items : Items) (u : Unit {0}) (fault : Option Fault) (c : Cursor) →
-    Ok u ≡ judged (many_by (entry_one key value) (entries (nodes_of items))) → fault ≡ None → c.mode ≡ Each → c.all ≡ items → c.rest ≡ items →
-    Starts (map_of key value alike (nodes_of items)) fault (map_left key value alike c)
-begins key value alike items u fault c e none mode all rest =
-    let one = entry_one key value in
-    let left : many_by one (merged_in alike (nodes_of items) (nodes_of items)) ≡ map_left key value alike c =
-    sym
-    (ap (replies_only (many_by one (merged_in alike (nodes_of c.all) (nodes_of c.rest)))) mode
-    ∙ ap (λ i. many_by one (merged_in alike (nodes_of i) (nodes_of c.rest))) all
-    ∙ ap (λ i. many_by one (merged_in alike (nodes_of items) (nodes_of i))) rest) in
-    subst (λ o. Starts (map_of key value alike (nodes_of items)) o (map_left key value alike c)) (sym none)
-    (done (many_by one (entries (nodes_of items))) (λ _. many_by one (merged_in alike (nodes_of items) (nodes_of items))) (map_left key value alike c) u e (λ _. left))

@@ -1,5 +1,5 @@
 -- Rows counted, picked and laid into a table, one after another.
-use Rattle.std.proofs.Common.{◌≡◌, ℕ, zero, suc, ◌+◌, ◌-◌, ◌<◌, false, cond, eqb, List, [], ◌∷◌, ◌++◌, length, take, drop, set, Some, None, Ok, Err, Option, Result, sym, refl, ap, ◌∙◌, subst, append_assoc, arith, length-drop, length-set, take-append-drop, ne_eqb}
+use Rattle.std.proofs.Common.{◌≡◌, ℕ, zero, suc, ◌+◌, ◌-◌, ◌<◌, ◌≤◌, false, cond, eqb, List, [], ◌∷◌, ◌++◌, length, take, drop, set, Some, None, Ok, Err, Option, Result, sym, refl, ap, ◌∙◌, subst, append_assoc, arith, length-drop, length-set, take-append-drop, ne_eqb}
 use Rattle.std.proofs.lemmas.List.{take_more_set, drop-set-lt, drop-drop}
 use Rattle.kinds.specs.declared.fault.Fault.{Fault}
 use Rattle.kinds.specs.Rows.{onto, counted}
@@ -95,3 +95,12 @@ never_faulty all left old cur i f e l = subst (λ r. Room r (length (drop i cur)
 -- what a step says where it gave a row
 pub step_row : {V : Type 0} (before after : Result (List V) Fault) (o : Option (Result V Fault)) (r : Result V Fault) (v : V) → Steps before o after → o ≡ Some r → r ≡ Ok v → before ≡ onto v after
 step_row before after o r v s e f = subst (λ x. Steps before x after) (e ∙ ap Some f) s
+
+-- all of the table is written
+pub laid_full : {V : Type 0} (all left : Result (List V) Fault) (old cur : List V) (i : ℕ) → length cur ≤ i → Laid all left old cur i → cur ≡ laid all old
+laid_full all left old cur i full l = sym (l.rows ∙ by left l.room)
+  where
+    by : (m : Result (List _) Fault) → Room m (length (drop i cur)) → take i cur ++ laid m (drop i cur) ≡ cur
+    by (Ok []) room = take-append-drop i cur
+    by (Ok (v ∷ vs)) room = absurd (omega (arith, length-drop i cur))
+    by (Err f) room = absurd room

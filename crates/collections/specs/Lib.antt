@@ -6,3 +6,4 @@ pub mod Picks
 pub mod Theorems
 pub mod Counted
 pub mod Examples
+pub mod Entries

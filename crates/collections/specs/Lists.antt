@@ -1,5 +1,5 @@
 -- The rows of a list.
-use Rattle.std.specs.Prelude.{◌≡◌, ℕ, ◌<◌, Bool, List, [], length, drop, Some, None, Ok, Err, Option, Result}
+use Rattle.std.specs.Prelude.{ℕ, Bool, List, [], Some, None, Ok, Err, Option, Result}
 use Rattle.resp.specs.declared.case.Case.{Case}
 use Rattle.resp.specs.declared.case.Case.TheVariants as case
 use Rattle.resp.specs.Node.{Node}
@@ -9,11 +9,10 @@ use Rattle.reply.specs.View.{nodes_of}
 use Rattle.kinds.specs.declared.fault.ElementReason.TheVariants.{Kind}
 use Rattle.kinds.specs.declared.fault.Fault.{Fault}
 use Rattle.kinds.specs.Fault.{refused}
-use Rattle.kinds.specs.Rows.{and_then, bytes_of, counted, cuts, many_by, many_of, mapped, onto}
+use Rattle.kinds.specs.Rows.{and_then, bytes_of, counted, cuts, many_by, many_of, mapped}
 use Rattle.kinds.specs.Texts.{case_at, text_in}
-use Rattle.collections.specs.declared.cursor.Mode.{Mode}
-use Rattle.collections.specs.declared.cursor.Mode.TheVariants.{Each, Cut, Bytes}
 use Rattle.collections.specs.declared.cursor.Cursor.{Cursor}
+use Rattle.collections.specs.declared.cursor.Cursor.TheVariants.{Each, Cut, Bytes, Distinct}
 use Rattle.collections.specs.declared.listed.Listed.{Listed}
 
 -- rows as a value inside another shape: the place of the reply handed in, and their count
@@ -50,15 +49,8 @@ abbrev pub bytes_left : {V : Type 0} → Option (ℕ → V) → List ℕ → Res
 bytes_left (Some f) s = Ok (mapped f s)
 bytes_left None s = Ok []
 
-abbrev pub left_by : {V : Type 0} → (Node → Result V Fault) → ℕ → (List Node → Result V Fault) → Option (ℕ → V) → Mode → List Node → List ℕ → Result (List V) Fault
-left_by one more joined bytewise Each ns s = many_by one ns
-left_by one more joined bytewise Cut ns s = many_by joined (cuts more ns)
-left_by one more joined bytewise Bytes ns s = bytes_left bytewise s
-
 abbrev pub list_left : {V : Type 0} → (Node → Result V Fault) → ℕ → (Spot → List Node → Result V Fault) → Option (ℕ → V) → Cursor → Result (List V) Fault
-list_left one more joined bytewise c = left_by one more (joined c.first) bytewise c.mode (nodes_of c.rest) c.text.now
-
--- a step through bytes
-abbrev pub ByteStep : {V : Type 0} → Option (ℕ → V) → List ℕ → Option V → Type 0
-ByteStep bytewise s None = bytes_left bytewise s ≡ Ok []
-ByteStep bytewise s (Some v) = (0 < length s) × (bytes_left bytewise s ≡ onto v (bytes_left bytewise (drop 1 s)))
+list_left one more joined bytewise (Each rest) = many_by one (nodes_of rest)
+list_left one more joined bytewise (Cut c) = many_by (joined c.first) (cuts more (nodes_of c.rest))
+list_left one more joined bytewise (Bytes text) = bytes_left bytewise text.now
+list_left one more joined bytewise (Distinct d) = Ok []

@@ -13,7 +13,7 @@ use Rattle.kinds.specs.Fault.{refused}
 use Rattle.kinds.specs.Rows.{and_then, many_by}
 use Rattle.kinds.specs.Texts.{case_at}
 use Rattle.collections.specs.declared.cursor.Cursor.{Cursor}
-use Rattle.collections.specs.Sets.{replies_only}
+use Rattle.collections.specs.declared.cursor.Cursor.TheVariants.{Each, Cut, Bytes, Distinct}
 
 -- each key with its value; a last key without one is left out
 abbrev pub entries : List Node → List (Node × Node)
@@ -75,6 +75,13 @@ map_by p ns r case.ServerError = Err (refused Kind p)
 abbrev pub map_rows : {A B : Type 0} → (Node → Result A Fault) → (Node → Result B Fault) → (Node → Node → Bool) → Node → Result (List (A × B)) Fault
 map_rows key value alike n = map_by (spot_of n) (flat_of (unwrapped n)) (map_of key value alike (flat_of (unwrapped n))) (case_at (unwrapped n))
 
+-- the keys and values of what reads as a map, before any of them is read
+abbrev pub map_items : Node → Result (List Node) Fault
+map_items n = map_by (spot_of n) (flat_of (unwrapped n)) (Ok (flat_of (unwrapped n))) (case_at (unwrapped n))
+
 -- what is left of it at a cursor
 abbrev pub map_left : {A B : Type 0} → (Node → Result A Fault) → (Node → Result B Fault) → (Node → Node → Bool) → Cursor → Result (List (A × B)) Fault
-map_left key value alike c = replies_only (many_by (entry_one key value) (merged_in alike (nodes_of c.all) (nodes_of c.rest))) c.mode
+map_left key value alike (Distinct d) = many_by (entry_one key value) (merged_in alike (nodes_of d.all) (nodes_of d.rest))
+map_left key value alike (Each rest) = Ok []
+map_left key value alike (Cut c) = Ok []
+map_left key value alike (Bytes text) = Ok []

@@ -1,8 +1,8 @@
 -- A row at a place, and the text under a name.
-use Rattle.std.specs.Prelude.{◌≡◌, ℕ, Bool, cond, List, [], ◌∷◌, Some, None, Ok, Err, Option, Result}
+use Rattle.std.specs.Prelude.{◌≡◌, ℕ, Bool, cond, List, [], ◌∷◌, Some, None, Ok, Err, Option, Result, MatchResult}
 use Rattle.std.specs.Borrow.{Bor}
 use Rattle.resp.specs.Node.{Node}
-use Rattle.reply.specs.declared.found.Found.{Found}
+use Rattle.reply.specs.declared.view.Reply.{Reply}
 use Rattle.reply.specs.declared.spot.Spot.{Spot}
 use Rattle.reply.specs.Find.{find}
 use Rattle.reply.specs.Parts.{flat_of, spot_of, unwrapped}
@@ -15,7 +15,6 @@ use Rattle.kinds.specs.Plain.{text_one, value_one}
 use Rattle.kinds.specs.Rows.{and_then, many_by}
 use Rattle.kinds.specs.Same.{key_of_text, same_key, text_key}
 use Rattle.kinds.specs.Texts.{case_at}
-use Rattle.collections.specs.declared.field.Named.{Named}
 use Rattle.collections.specs.Maps.{entries, entry_one, map_by}
 use Rattle.collections.specs.Steps.{nth_in}
 
@@ -66,13 +65,10 @@ Under fallback (Ok []) r = r ≡ Ok fallback
 Under fallback (Ok (v ∷ vs)) r = TextOf v (text_one v) r
 
 -- what was found, as a list
-abbrev pub found_nodes : Found → List Node
-found_nodes f = cond f.found (node_of f.reply ∷ []) []
+abbrev pub found_nodes : Option Reply → List Node
+found_nodes (Some value) = node_of value ∷ []
+found_nodes None = []
 
--- an answer of the value under a name, or of a refusal
-abbrev pub NamedBy : Result (List Node) Fault → Option Fault → List Node → Type 0
-NamedBy r (Some f) ns = r ≡ Err f
-NamedBy r None ns = r ≡ Ok ns
-
-abbrev pub NamedAs : Result (List Node) Fault → Named → Type 0
-NamedAs r a = NamedBy r a.fault (found_nodes a.value)
+-- an answer of the value under a name, if there is one, or of a refusal
+abbrev pub NamedAs : Result (List Node) Fault → Result (Option Reply) Fault → Type 0
+NamedAs r a = MatchResult a (λ value. r ≡ Ok (found_nodes value)) (λ fault. r ≡ Err fault)

@@ -11,9 +11,8 @@ use Rattle.kinds.specs.declared.fault.Fault.{Fault}
 use Rattle.kinds.specs.Fault.{refused}
 use Rattle.kinds.specs.Rows.{and_then, many_by}
 use Rattle.kinds.specs.Texts.{case_at}
-use Rattle.collections.specs.declared.cursor.Mode.{Mode}
-use Rattle.collections.specs.declared.cursor.Mode.TheVariants.{Each, Cut, Bytes}
 use Rattle.collections.specs.declared.cursor.Cursor.{Cursor}
+use Rattle.collections.specs.declared.cursor.Cursor.TheVariants.{Each, Cut, Bytes, Distinct}
 
 -- one of some replies is like n
 abbrev pub seen_in : (Node → Node → Bool) → Node → List Node → Bool
@@ -53,11 +52,9 @@ set_by p r case.ServerError = Err (refused Kind p)
 abbrev pub set_rows : {V : Type 0} → (Node → Result V Fault) → (Node → Node → Bool) → Node → Result (List V) Fault
 set_rows one alike n = set_by (spot_of n) (set_of one alike (parts_of (unwrapped n))) (case_at (unwrapped n))
 
--- what is left of it at a cursor; a set has no bytes
-abbrev pub replies_only : {V : Type 0} → Result (List V) Fault → Mode → Result (List V) Fault
-replies_only r Each = r
-replies_only r Cut = r
-replies_only r Bytes = Ok []
-
+-- what is left of it at a cursor
 abbrev pub set_left : {V : Type 0} → (Node → Result V Fault) → (Node → Node → Bool) → Cursor → Result (List V) Fault
-set_left one alike c = replies_only (many_by one (firsts_in alike (nodes_of c.all) (nodes_of c.rest))) c.mode
+set_left one alike (Distinct d) = many_by one (firsts_in alike (nodes_of d.all) (nodes_of d.rest))
+set_left one alike (Each rest) = Ok []
+set_left one alike (Cut c) = Ok []
+set_left one alike (Bytes text) = Ok []

@@ -1,17 +1,15 @@
 -- How a cursor goes through the rows of a collection.
-use Rattle.std.specs.Prelude.{◌≡◌, ℕ, zero, suc, ◌<◌, ◌≤◌, cond, List, [], ◌∷◌, ◌++◌, length, drop, Some, None, Ok, Err, Option, Result, ◌==◌, nat_le}
+use Rattle.std.specs.Prelude.{◌≡◌, ℕ, zero, suc, ◌<◌, ◌≤◌, cond, List, [], ◌∷◌, ◌++◌, length, drop, Some, None, Ok, Err, Option, Result, MatchResult, ◌==◌, nat_le}
 use Rattle.kinds.specs.declared.fault.Fault.{Fault}
 use Rattle.kinds.specs.declared.fault.Fault.TheVariants.{Intake}
 use Rattle.kinds.specs.declared.fault.IntakeReason.TheVariants.{Table}
 use Rattle.kinds.specs.Rows.{onto}
-use Rattle.collections.specs.declared.cursor.Mode.{Mode}
-use Rattle.collections.specs.declared.cursor.Mode.TheVariants.{Each, Cut, Bytes}
 use Rattle.collections.specs.declared.cursor.Cursor.{Cursor}
+use Rattle.collections.specs.declared.cursor.Cursor.TheVariants.{Each, Cut, Bytes, Distinct}
 
--- what is left at the start are all rows; a fault is that of the rows
-abbrev pub Starts : {V : Type 0} → Result (List V) Fault → Option Fault → Result (List V) Fault → Type 0
-Starts rows None left = rows ≡ left
-Starts rows (Some f) left = rows ≡ Err f
+-- the rows are what is left at the start, or there is a refusal and it is that of the rows
+abbrev pub Starts : {V C : Type 0} → Result (List V) Fault → (C → Result (List V) Fault) → Result C Fault → Type 0
+Starts rows left r = MatchResult r (λ cursor. rows ≡ left cursor) (λ fault. rows ≡ Err fault)
 
 -- one step: nothing was left, or a row before what is left now, or a refusal
 abbrev pub Steps : {V : Type 0} → Result (List V) Fault → Option (Result V Fault) → Result (List V) Fault → Type 0
@@ -20,13 +18,11 @@ Steps before (Some (Ok v)) after = before ≡ onto v after
 Steps before (Some (Err f)) after = before ≡ Err f
 
 -- how much is left: no fewer than the rows
-abbrev pub size_by : Mode → ℕ → ℕ → ℕ
-size_by Each replies bytes = replies
-size_by Cut replies bytes = replies
-size_by Bytes replies bytes = bytes
-
 abbrev pub size : Cursor → ℕ
-size c = size_by c.mode c.rest.left (length c.text.now)
+size (Each rest) = rest.left
+size (Cut c) = c.rest.left
+size (Bytes text) = length text.now
+size (Distinct d) = d.rest.left
 
 -- after a row less is left
 abbrev pub Falls : {V : Type 0} → ℕ → Option (Result V Fault) → ℕ → Type 0

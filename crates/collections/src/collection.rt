@@ -5,7 +5,7 @@ ghost use Rattle.reply.specs.View.{node_of};
 ghost use Rattle.collections.specs.declared.cursor.Cursor.{Cursor};
 ghost use Rattle.collections.specs.Steps.{Falls, Starts, Steps, size};
 
-use crate::cursor::{Begun, Cursor};
+use crate::cursor::Cursor;
 use kinds::Fault;
 use reply::Reply;
 
@@ -19,8 +19,8 @@ pub trait Collection {
     // the rows that are left at a cursor
     ghost left: { Self → Cursor → Result (List Self.Row) Fault };
 
-    fn begin<'a>(&self, reply: Reply<'a>) -> Begun<'a>
-        ensures { Starts (rows self.now (node_of reply.entry)) result.fault (left self.now result.cursor) };
+    fn begin<'a>(&self, reply: Reply<'a>) -> Result<Cursor<'a>, Fault>
+        ensures { Starts (rows self.now (node_of reply.entry)) (left self.now) result };
 
     fn advance(&self, cursor: &mut Cursor<'_>) -> Option<Result<Self::Row, Fault>>
         ensures step { Steps (left self.now cursor.old) result (left self.now cursor.new) }

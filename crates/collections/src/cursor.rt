@@ -1,30 +1,53 @@
-use kinds::Fault;
+ghost use Rattle.std.specs.Prelude.{◌≡◌};
+ghost use Rattle.collections.specs.declared.cursor.Cursor.TheVariants.{Distinct};
+ghost use Rattle.collections.specs.Steps.{size};
+
 use reply::{Items, Spot};
 
-/// How the rows that are left are taken.
+/// What is left of replies that are cut, several to a row; the first of the whole list begins at a place.
 #[derive(Clone, Copy)]
-pub enum Mode {
-    /// Each reply is a row.
-    Each,
-    /// The replies are cut, several to a row.
-    Cut,
-    /// Each byte is a row.
-    Bytes,
+pub struct Cuts<'a> {
+    pub first: Spot,
+    pub rest: Items<'a>,
 }
 
-/// A place among the rows of a collection: what is left of its replies or bytes, all its replies, and where the first begins.
+/// What is left of all replies, where each class of equal ones is one row.
 #[derive(Clone, Copy)]
-pub struct Cursor<'a> {
-    pub mode: Mode,
-    pub first: Spot,
+pub struct Classes<'a> {
     pub all: Items<'a>,
     pub rest: Items<'a>,
-    pub text: &'a [u8],
 }
 
-/// The cursor before the first row; or why there are no rows.
+/// A place among the rows of a collection: what is left of it, and how that is taken.
 #[derive(Clone, Copy)]
-pub struct Begun<'a> {
-    pub fault: Option<Fault>,
-    pub cursor: Cursor<'a>,
+pub enum Cursor<'a> {
+    /// Each reply is a row.
+    Each(Items<'a>),
+    /// Each cut is a row.
+    Cut(Cuts<'a>),
+    /// Each byte is a row.
+    Bytes(&'a [u8]),
+    /// Each reply, or each entry of a map, that is like none before it is a row.
+    Distinct(Classes<'a>),
+}
+
+impl<'a> Cursor<'a> {
+    /// The cursor before the first of some distinct replies.
+    pub(crate) fn distinct(all: Items<'a>) -> Cursor<'a>
+        ensures { result ≡ Distinct (record { all = all.entry; rest = all.entry }) }
+    {
+        Cursor::Distinct(Classes { all, rest: all })
+    }
+
+    /// How many rows are left at most.
+    pub(crate) fn size(self) -> usize
+        ensures { result ≡ size self.entry }
+    {
+        match self {
+            Cursor::Each(rest) => rest.len(),
+            Cursor::Cut(cuts) => cuts.rest.len(),
+            Cursor::Bytes(text) => text.len(),
+            Cursor::Distinct(classes) => classes.rest.len(),
+        }
+    }
 }

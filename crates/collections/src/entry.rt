@@ -1,5 +1,6 @@
-ghost use Rattle.std.specs.Prelude.{◌≡◌, ◌-◌, ◌<◌, ◌∷◌};
-ghost use Rattle.reply.specs.View.{node_of, nodes_of};
+ghost use Rattle.std.specs.Prelude.{MatchOption};
+ghost use Rattle.std.specs.Iterator.{at_most};
+ghost use Rattle.collections.specs.Entries.{NoEntry, PassesEntry};
 
 use reply::{Items, Reply};
 
@@ -10,13 +11,22 @@ pub struct Entry<'a> {
     pub value: Reply<'a>,
 }
 
-/// The next key and its value.
-pub(crate) fn next_entry<'a>(rest: &mut Items<'a>) -> Entry<'a>
-    ensures left { rest.new.left ≡ rest.old.left - 2 }
-    ensures items { 1 < rest.old.left → nodes_of rest.old ≡ node_of result.key ∷ (node_of result.value ∷ nodes_of rest.new) }
-    ensures bytes { 1 < rest.old.left → result.value.bytes ≡ rest.old.bytes }
-{
-    let key = rest.next();
-    let value = rest.next();
-    Entry { key, value }
+/// Keys and values, one after the other, as entries. A last key without a value is left out.
+#[derive(Clone, Copy)]
+pub struct Entries<'a> {
+    pub rest: Items<'a>,
+}
+
+impl<'a> Iterator for Entries<'a> {
+    type Item = Entry<'a>;
+
+    ghost next_gives = { λ row first others. MatchOption first (NoEntry row others) (λ entry. PassesEntry row entry others) };
+
+    ghost remaining = { λ row. at_most row.rest.left };
+
+    fn next(&mut self) -> Option<Entry<'a>> {
+        let key = self.rest.next()?;
+        let value = self.rest.next()?;
+        Some(Entry { key, value })
+    }
 }

@@ -22,7 +22,7 @@ mod table;
 mod tests;
 
 pub use collection::Collection;
-pub use cursor::{Begun, Cursor, Mode};
+pub use cursor::{Classes, Cursor, Cuts};
 pub use field::text_under;
 pub use inside::read_listed;
 pub use laws::{examples_stand, rows_agree};

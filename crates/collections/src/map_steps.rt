@@ -1,10 +1,10 @@
-ghost use Rattle.std.specs.Prelude.{◌≡◌, ◌<◌, ◌≤◌, take};
+ghost use Rattle.std.specs.Prelude.{◌≡◌, ◌*◌, take};
 ghost use Rattle.kinds.specs.Rows.{many_by};
 ghost use Rattle.reply.specs.View.{node_of, nodes_of};
 ghost use Rattle.collections.specs.Maps.{entries, entry_one, last_for, merged_in, seen_key};
 ghost use Rattle.collections.specs.Steps.{Falls, Steps, judged};
 
-use crate::entry::{Entry, next_entry};
+use crate::entry::{Entries, Entry};
 use kinds::{Fault, FromRedisValue, Same};
 use reply::{Items, Reply};
 
@@ -12,14 +12,13 @@ use reply::{Items, Reply};
 fn read_entry<K: FromRedisValue, V: FromRedisValue>(
     keys: &K,
     values: &V,
-    key: Reply<'_>,
-    value: Reply<'_>,
+    entry: Entry<'_>,
 ) -> Result<(K::Value, V::Value), Fault>
-    ensures { result ≡ entry_one (K.FromRedisValue.one keys.now) (V.FromRedisValue.one values.now) (node_of key.entry, node_of value.entry) }
+    ensures { result ≡ entry_one (K.FromRedisValue.one keys.now) (V.FromRedisValue.one values.now) (node_of entry.entry.key, node_of entry.entry.value) }
 {
-    let first = keys.from_redis_value(key)?;
-    let second = values.from_redis_value(value)?;
-    Ok((first, second))
+    let key = keys.from_redis_value(entry.key)?;
+    let value = values.from_redis_value(entry.value)?;
+    Ok((key, value))
 }
 
 /// Reads each entry, up to the first refusal.
@@ -30,28 +29,21 @@ pub(crate) fn check_entries<K: FromRedisValue, V: FromRedisValue>(
 ) -> Result<(), Fault>
     ensures { result ≡ judged (many_by (entry_one (K.FromRedisValue.one keys.now) (V.FromRedisValue.one values.now)) (entries (nodes_of items.entry))) }
 {
-    let mut rest = items;
-    while rest.len() > 1 {
-        let entry = next_entry(&mut rest);
-        read_entry(keys, values, entry.key, entry.value)?;
+    for entry in (Entries { rest: items }) {
+        read_entry(keys, values, entry)?;
     }
     Ok(())
 }
 
-/// Whether a key among the first `count` replies is like this one.
+/// Whether a key among the first `count` entries is like this one.
 fn is_key_seen<K: Same>(keys: &K, all: Items<'_>, count: usize, key: Reply<'_>) -> bool
-    ensures { result ≡ seen_key (K.Same.alike keys.now) (node_of key.entry) (take count (nodes_of all.entry)) }
+    ensures { result ≡ seen_key (K.Same.alike keys.now) (node_of key.entry) (take (2 * count) (nodes_of all.entry)) }
 {
-    let mut rest = all;
-    let mut left = count;
-    while rest.len() > 1 {
-        if left < 2 {
-            return false;
-        }
-        if keys.is_same(next_entry(&mut rest).key, key) {
+    let entries = Entries { rest: all };
+    for earlier in entries.take(count) {
+        if keys.is_same(earlier.key, key) {
             return true;
         }
-        left -= 2;
     }
     false
 }
@@ -65,10 +57,8 @@ fn last_value<'a, K: Same>(
 ) -> Reply<'a>
     ensures { node_of result ≡ last_for (K.Same.alike keys.now) (node_of key.entry) (node_of value.entry) (nodes_of items.entry) }
 {
-    let mut rest = items;
     let mut last = value;
-    while rest.len() > 1 {
-        let entry = next_entry(&mut rest);
+    for entry in (Entries { rest: items }) {
         if keys.is_same(key, entry.key) {
             last = entry.value;
         }
@@ -86,13 +76,14 @@ pub(crate) fn next_key<K: Same, V: FromRedisValue>(
     ensures step { Steps (many_by (entry_one (K.FromRedisValue.one keys.now) (V.FromRedisValue.one values.now)) (merged_in (K.Same.alike keys.now) (nodes_of all.entry) (nodes_of rest.old))) result (many_by (entry_one (K.FromRedisValue.one keys.now) (V.FromRedisValue.one values.now)) (merged_in (K.Same.alike keys.now) (nodes_of all.entry) (nodes_of rest.new))) }
     ensures falls { Falls rest.old.left result rest.new.left }
 {
-    while rest.len() > 1 {
-        let before = all.len().saturating_sub(rest.len());
-        let entry = next_entry(rest);
+    let mut entries = Entries { rest: *rest };
+    loop {
+        let before = all.len().saturating_sub(entries.rest.len()) / 2;
+        let entry = entries.next()?;
+        *rest = entries.rest;
         if !is_key_seen(keys, all, before, entry.key) {
             let value = last_value(keys, *rest, entry.key, entry.value);
-            return Some(read_entry(keys, values, entry.key, value));
+            return Some(read_entry(keys, values, Entry { value, ..entry }));
         }
     }
-    None
 }

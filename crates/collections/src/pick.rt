@@ -16,13 +16,7 @@ pub fn row_at<C: Collection>(
 ) -> Result<C::Row, Fault>
     ensures { result ≡ row_at (C.Collection.rows shape.now) spot i (node_of reply.entry) }
 {
-    let place = reply.find(spot);
-    if !place.found {
-        return Err(Fault::Intake(IntakeReason::Pick));
-    }
-    match nth_row(shape, place.reply, i) {
-        Err(fault) => Err(fault),
-        Ok(Some(row)) => Ok(row),
-        Ok(None) => Err(Fault::Intake(IntakeReason::Pick)),
-    }
+    let none = Fault::Intake(IntakeReason::Pick);
+    let whole = reply.find(spot).ok_or(none)?;
+    nth_row(shape, whole, i)?.ok_or(none)
 }

@@ -1,16 +1,13 @@
-ghost use Rattle.std.specs.Prelude.{false, None, refl};
-ghost use Rattle.kinds.specs.Rows.{first_by};
 ghost use Rattle.collections.specs.Lists.{listed_one};
 ghost use Rattle.collections.specs.Sets.{set_left, set_rows};
 
 use crate::collection::Collection;
-use crate::cursor::{Begun, Cursor, Mode};
+use crate::cursor::Cursor;
 use crate::inside::read_listed;
-use crate::list_steps::{none_of, not_begun, over};
 use crate::listed::Listed;
 use crate::set_steps::{check_each, next_first};
-use kinds::{ElementReason, Fault, FromRedisValue, Rows, Same, join_one, refuse};
-use reply::{Items, Reply, Spot};
+use kinds::{ElementReason, Fault, FromRedisValue, Same, Single, refuse};
+use reply::Reply;
 use resp::Case;
 
 /// A set of K.
@@ -24,23 +21,22 @@ impl<K: Same> Collection for SetOf<K> {
 
     ghost left = { λ k. set_left (K.FromRedisValue.one k.0) (K.Same.alike k.0) };
 
-    fn begin<'a>(&self, reply: Reply<'a>) -> Begun<'a> {
+    fn begin<'a>(&self, reply: Reply<'a>) -> Result<Cursor<'a>, Fault> {
         let inner = reply.unwrapped();
         let items = inner.items();
         match inner.case() {
-            Case::Array | Case::Set => match check_each(&self.0, items) {
-                Ok(()) => over(false, items),
-                Err(fault) => not_begun(fault, items),
-            },
-            Case::Nil => over(false, none_of(inner)),
-            _ => not_begun(refuse(ElementReason::Kind, reply), items),
+            Case::Array | Case::Set | Case::Nil => {
+                check_each(&self.0, items)?;
+                Ok(Cursor::distinct(items))
+            }
+            _ => Err(refuse(ElementReason::Kind, reply)),
         }
     }
 
     fn advance(&self, cursor: &mut Cursor<'_>) -> Option<Result<K::Value, Fault>> {
-        match cursor.mode {
-            Mode::Each | Mode::Cut => next_first(&self.0, cursor.all, &mut cursor.rest),
-            Mode::Bytes => None,
+        match cursor {
+            Cursor::Distinct(classes) => next_first(&self.0, classes.all, &mut classes.rest),
+            _ => None,
         }
     }
 }
@@ -55,26 +51,4 @@ impl<K: Same> FromRedisValue for SetOf<K> {
     }
 }
 
-impl<K: Same> Rows for SetOf<K> {
-    ghost flat = { λ _ _. false };
-
-    ghost more = { λ _. 0 };
-
-    ghost joined = { λ k _. first_by (Self.FromRedisValue.one k) };
-
-    ghost bytewise = { λ _. None };
-
-    ghost none = { λ _ _. refl };
-
-    fn is_flat(&self, _items: Items<'_>) -> bool {
-        false
-    }
-
-    fn join(&self, _first: Spot, items: &mut Items<'_>) -> Result<Listed<K::Value>, Fault> {
-        join_one(self, items)
-    }
-
-    fn of_byte(&self, _byte: u8) -> Option<Listed<K::Value>> {
-        None
-    }
-}
+impl<K: Same> Single for SetOf<K> {}

@@ -1,10 +1,9 @@
-ghost use Rattle.std.specs.Prelude.{◌≡◌, List, take};
+ghost use Rattle.std.specs.Prelude.{◌≡◌, take};
 ghost use Rattle.kinds.specs.Rows.{many_by};
 ghost use Rattle.reply.specs.View.{node_of, nodes_of};
 ghost use Rattle.collections.specs.Sets.{firsts_in, seen_in};
 ghost use Rattle.collections.specs.Steps.{Falls, Steps, judged};
 
-use crate::cursor::Cursor;
 use kinds::{Fault, FromRedisValue, Same};
 use reply::{Items, Reply};
 
@@ -12,16 +11,10 @@ use reply::{Items, Reply};
 fn is_seen<K: Same>(kind: &K, all: Items<'_>, count: usize, reply: Reply<'_>) -> bool
     ensures { result ≡ seen_in (K.Same.alike kind.now) (node_of reply.entry) (take count (nodes_of all.entry)) }
 {
-    let mut rest = all;
-    let mut left = count;
-    while rest.len() > 0 {
-        if left == 0 {
-            return false;
-        }
-        if kind.is_same(rest.next(), reply) {
+    for earlier in all.take(count) {
+        if kind.is_same(earlier, reply) {
             return true;
         }
-        left -= 1;
     }
     false
 }
@@ -35,23 +28,21 @@ pub(crate) fn next_first<K: Same>(
     ensures step { Steps (many_by (K.FromRedisValue.one kind.now) (firsts_in (K.Same.alike kind.now) (nodes_of all.entry) (nodes_of rest.old))) result (many_by (K.FromRedisValue.one kind.now) (firsts_in (K.Same.alike kind.now) (nodes_of all.entry) (nodes_of rest.new))) }
     ensures falls { Falls rest.old.left result rest.new.left }
 {
-    while rest.len() > 0 {
+    loop {
         let before = all.len().saturating_sub(rest.len());
-        let reply = rest.next();
+        let reply = rest.next()?;
         if !is_seen(kind, all, before, reply) {
             return Some(kind.from_redis_value(reply));
         }
     }
-    None
 }
 
 /// Reads each reply by itself, up to the first refusal.
 pub(crate) fn check_each<K: FromRedisValue>(kind: &K, items: Items<'_>) -> Result<(), Fault>
     ensures { result ≡ judged (many_by (K.FromRedisValue.one kind.now) (nodes_of items.entry)) }
 {
-    let mut rest = items;
-    while rest.len() > 0 {
-        kind.from_redis_value(rest.next())?;
+    for reply in items {
+        kind.from_redis_value(reply)?;
     }
     Ok(())
 }

@@ -4,31 +4,20 @@ ghost use Rattle.reply.specs.View.{node_of};
 ghost use Rattle.collections.specs.Steps.{Room, laid, noted, nth_in, size, tabled};
 
 use crate::collection::Collection;
-use crate::cursor::{Begun, Cursor, Mode};
+use crate::cursor::Cursor;
 use kinds::{Fault, IntakeReason};
 use reply::Reply;
-
-/// How many rows are left at most.
-fn size_of(cursor: Cursor<'_>) -> usize
-    ensures { result ≡ size cursor.entry }
-{
-    match cursor.mode {
-        Mode::Each | Mode::Cut => cursor.rest.len(),
-        Mode::Bytes => cursor.text.len(),
-    }
-}
 
 /// How many rows are left.
 fn count_left<C: Collection>(shape: &C, cursor: Cursor<'_>) -> Result<usize, Fault>
     ensures { result ≡ counted (C.Collection.left shape.now cursor.entry) }
 {
-    let most = size_of(cursor);
+    // no more rows come, so that the count fits
+    let most = cursor.size();
     let mut rest = cursor;
     let mut count = 0;
     while let Some(row) = shape.advance(&mut rest) {
-        if let Err(fault) = row {
-            return Err(fault);
-        }
+        row?;
         count += 1;
     }
     Ok(count)
@@ -38,20 +27,18 @@ fn count_left<C: Collection>(shape: &C, cursor: Cursor<'_>) -> Result<usize, Fau
 pub fn count_rows<C: Collection>(shape: &C, reply: Reply<'_>) -> Result<usize, Fault>
     ensures { result ≡ counted (C.Collection.rows shape.now (node_of reply.entry)) }
 {
-    let Begun { fault, cursor } = shape.begin(reply);
-    match fault {
-        Some(fault) => Err(fault),
-        None => count_left(shape, cursor),
-    }
+    let cursor = shape.begin(reply)?;
+    count_left(shape, cursor)
 }
 
 /// The row that is found once `skip` more are passed, of those so far and this one.
 fn note_row<R: Copy>(found: Option<R>, skip: usize, row: R) -> Option<R>
     ensures { result ≡ noted found skip row }
 {
-    match found {
-        Some(earlier) => Some(earlier),
-        None => { if skip == 0 { Some(row) } else { None } }
+    if skip == 0 {
+        found.or(Some(row))
+    } else {
+        found
     }
 }
 
@@ -63,13 +50,8 @@ fn nth_left<C: Collection>(shape: &C, cursor: Cursor<'_>, i: usize) -> Result<Op
     let mut skip = i;
     let mut found = None;
     while let Some(row) = shape.advance(&mut rest) {
-        match row {
-            Err(fault) => return Err(fault),
-            Ok(value) => {
-                found = note_row(found, skip, value);
-                skip = skip.saturating_sub(1);
-            }
-        }
+        found = note_row(found, skip, row?);
+        skip = skip.saturating_sub(1);
     }
     Ok(found)
 }
@@ -82,11 +64,8 @@ pub fn nth_row<C: Collection>(
 ) -> Result<Option<C::Row>, Fault>
     ensures { result ≡ nth_in i (C.Collection.rows shape.now (node_of reply.entry)) }
 {
-    let Begun { fault, cursor } = shape.begin(reply);
-    match fault {
-        Some(fault) => Err(fault),
-        None => nth_left(shape, cursor, i),
-    }
+    let cursor = shape.begin(reply)?;
+    nth_left(shape, cursor, i)
 }
 
 /// Writes the rows that are left, where the table has room for them.
@@ -94,16 +73,14 @@ fn fill_left<C: Collection>(shape: &C, cursor: Cursor<'_>, table: &mut [C::Row])
     ensures { Room (C.Collection.left shape.now cursor.entry) (length table.old) → table.new ≡ laid (C.Collection.left shape.now cursor.entry) table.old }
 {
     let mut rest = cursor;
-    let mut i = 0;
-    while let Some(row) = shape.advance(&mut rest) {
+    for slot in table.iter_mut() {
+        let Some(row) = shape.advance(&mut rest) else {
+            return;
+        };
         let Ok(value) = row else {
             return;
         };
-        if i >= table.len() {
-            return;
-        }
-        table[i] = value;
-        i += 1;
+        *slot = value;
     }
 }
 
@@ -120,9 +97,7 @@ pub fn fill_table<C: Collection>(
     if count > table.len() {
         return Err(Fault::Intake(IntakeReason::Table));
     }
-    let Begun { fault, cursor } = shape.begin(reply);
-    if fault.is_none() {
-        fill_left(shape, cursor, table);
-    }
+    let cursor = shape.begin(reply)?;
+    fill_left(shape, cursor, table);
     Ok(count)
 }

@@ -122,6 +122,10 @@ abbrev pub Within : Bounds → Result ℤ Fault → Type 0
 Within b (Ok z) = (b.low ≤ℤ z) × (z ≤ℤ b.high)
 Within b (Err f) = Unit {0}
 
+-- the bounds from one integer to another
+abbrev pub bounds_from : ℤ → ℤ → Bounds
+bounds_from low high = record { low = low; high = high }
+
 -- the bounds of the widths
 abbrev pub u8_bounds : Bounds
 u8_bounds = record { low = pos 0; high = pos 255 }

@@ -1,4 +1,8 @@
-ghost use Rattle.std.specs.Prelude.{◌≡◌, ◌≤ℤ◌, ℤ, pos, negsuc, unsigned_abs, refl};
+ghost use Rattle.std.specs.Prelude.{◌≡◌, ◌≤ℤ◌, ◌<◌, ◌^◌, ℕ, ℤ, pos, negsuc, unsigned_abs, Some, None, Option, refl};
+ghost use Rattle.kinds.specs.Numbers.{bounds_from};
+ghost use Rattle.kinds.specs.Rows.{byte_by};
+
+use crate::bounds::Bounds;
 
 /// A type of integers that a kind reads: those from its least to its greatest.
 pub trait Width: Copy {
@@ -12,6 +16,12 @@ pub trait Width: Copy {
 
     ghost widen: { Self → ℤ };
 
+    // which values are integers of a reply, which are signed and of 64 bits
+    ghost in_i64: { Self → Type 0 };
+
+    // what a byte of a byte string is, if it is taken apart
+    ghost bytewise: { Option (ℕ → Self) };
+
     const LOW: i128;
 
     const HIGH: i128;
@@ -21,8 +31,21 @@ pub trait Width: Copy {
         requires high { number ≤ℤ HIGH }
         ensures { result ≡ narrow number };
 
+    fn of_byte(byte: u8) -> Option<Self>
+        ensures { result ≡ byte_by bytewise byte };
+
     // a value is what its integer is as a value
     ghost same: { (v : Self) → narrow (widen v) ≡ v };
+}
+
+/// The bounds of a type of integers.
+pub(crate) fn bounds_of<T: Width>() -> Bounds
+    ensures { result ≡ bounds_from T.LOW T.HIGH }
+{
+    Bounds {
+        low: T::LOW,
+        high: T::HIGH,
+    }
 }
 
 impl Width for u8 {
@@ -34,6 +57,10 @@ impl Width for u8 {
 
     ghost widen = { pos };
 
+    ghost in_i64 = { λ m. m < 2 ^ 63 };
+
+    ghost bytewise = { Some (λ b. b) };
+
     ghost same = { λ v. refl };
 
     const LOW: i128 = u8::MIN as i128;
@@ -42,6 +69,10 @@ impl Width for u8 {
 
     fn narrowed(number: i128) -> u8 {
         number as u8
+    }
+
+    fn of_byte(byte: u8) -> Option<u8> {
+        Some(byte)
     }
 }
 
@@ -54,6 +85,10 @@ impl Width for u16 {
 
     ghost widen = { pos };
 
+    ghost in_i64 = { λ m. m < 2 ^ 63 };
+
+    ghost bytewise = { None };
+
     ghost same = { λ v. refl };
 
     const LOW: i128 = u16::MIN as i128;
@@ -62,6 +97,10 @@ impl Width for u16 {
 
     fn narrowed(number: i128) -> u16 {
         number as u16
+    }
+
+    fn of_byte(_byte: u8) -> Option<u16> {
+        None
     }
 }
 
@@ -74,6 +113,10 @@ impl Width for u64 {
 
     ghost widen = { pos };
 
+    ghost in_i64 = { λ m. m < 2 ^ 63 };
+
+    ghost bytewise = { None };
+
     ghost same = { λ v. refl };
 
     const LOW: i128 = u64::MIN as i128;
@@ -82,6 +125,10 @@ impl Width for u64 {
 
     fn narrowed(number: i128) -> u64 {
         number as u64
+    }
+
+    fn of_byte(_byte: u8) -> Option<u64> {
+        None
     }
 }
 
@@ -94,6 +141,10 @@ impl Width for i8 {
 
     ghost widen = { λ z. z };
 
+    ghost in_i64 = { λ _. Unit {0} };
+
+    ghost bytewise = { None };
+
     ghost same = { λ v. refl };
 
     const LOW: i128 = i8::MIN as i128;
@@ -102,6 +153,10 @@ impl Width for i8 {
 
     fn narrowed(number: i128) -> i8 {
         number as i8
+    }
+
+    fn of_byte(_byte: u8) -> Option<i8> {
+        None
     }
 }
 
@@ -114,6 +169,10 @@ impl Width for i64 {
 
     ghost widen = { λ z. z };
 
+    ghost in_i64 = { λ _. Unit {0} };
+
+    ghost bytewise = { None };
+
     ghost same = { λ v. refl };
 
     const LOW: i128 = i64::MIN as i128;
@@ -122,5 +181,9 @@ impl Width for i64 {
 
     fn narrowed(number: i128) -> i64 {
         number as i64
+    }
+
+    fn of_byte(_byte: u8) -> Option<i64> {
+        None
     }
 }

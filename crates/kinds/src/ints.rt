@@ -1,13 +1,13 @@
-ghost use Rattle.std.specs.Prelude.{◌≡◌, false, Some, refl};
+ghost use Rattle.std.specs.Prelude.{◌≡◌, false, refl};
 ghost use Rattle.reply.specs.View.{node_of};
-ghost use Rattle.kinds.specs.Numbers.{Within, float_one, integer_one, narrowed, same_number};
+ghost use Rattle.kinds.specs.Numbers.{Within, bounds_from, float_one, integer_one, narrowed, same_number};
 ghost use Rattle.kinds.specs.Rows.{first_by};
 ghost use Rattle.kinds.specs.Within.{number_equality};
 
 use crate::bounds::Bounds;
 use crate::each::join_one;
 use crate::fault::Fault;
-use crate::integer::Width;
+use crate::integer::{Width, bounds_of};
 use crate::kind::{FromRedisValue, Rows, Single};
 use crate::number::{float_number, whole_number};
 use crate::same::{Same, same_read};
@@ -46,49 +46,32 @@ pub const I64: Integer<i64> = Integer(PhantomData);
 impl<T: Width> FromRedisValue for Integer<T> {
     type Value = T;
 
-    ghost one = { λ _ n. narrowed T.narrow (integer_one (record { low = T.LOW; high = T.HIGH }) n) };
+    ghost one = { λ _ n. narrowed T.narrow (integer_one (bounds_from T.LOW T.HIGH) n) };
 
     fn from_redis_value(&self, reply: Reply<'_>) -> Result<T, Fault> {
-        let bounds = Bounds {
-            low: T::LOW,
-            high: T::HIGH,
-        };
-        let number = bounded(reply, bounds)?;
+        let number = bounded(reply, bounds_of::<T>())?;
         Ok(T::narrowed(number))
     }
 }
 
 impl<T: Width> Same for Integer<T> {
-    ghost alike = { λ _. same_number (record { low = T.LOW; high = T.HIGH }) };
+    ghost alike = { λ _. same_number (bounds_from T.LOW T.HIGH) };
 
-    ghost equality = { λ k. number_equality (record { low = T.LOW; high = T.HIGH }) };
+    ghost equality = { λ k. number_equality (bounds_from T.LOW T.HIGH) };
 
     fn is_same(&self, a: Reply<'_>, b: Reply<'_>) -> bool {
-        let bounds = Bounds {
-            low: T::LOW,
-            high: T::HIGH,
-        };
-        same_number(a, b, bounds)
+        same_number(a, b, bounds_of::<T>())
     }
 }
 
-impl Single for Integer<u16> {}
-
-impl Single for Integer<u64> {}
-
-impl Single for Integer<i8> {}
-
-impl Single for Integer<i64> {}
-
-/// Of single bytes a byte string is a list.
-impl Rows for Integer<u8> {
+impl<T: Width> Rows for Integer<T> {
     ghost flat = { λ _ _. false };
 
     ghost more = { λ _. 0 };
 
     ghost joined = { λ k _. first_by (Self.FromRedisValue.one k) };
 
-    ghost bytewise = { λ _. Some (λ b. b) };
+    ghost bytewise = { λ _. T.bytewise };
 
     ghost none = { λ _ _. refl };
 
@@ -96,12 +79,12 @@ impl Rows for Integer<u8> {
         false
     }
 
-    fn join(&self, _first: Spot, items: &mut Items<'_>) -> Result<u8, Fault> {
+    fn join(&self, _first: Spot, items: &mut Items<'_>) -> Result<T, Fault> {
         join_one(self, items)
     }
 
-    fn of_byte(&self, byte: u8) -> Option<u8> {
-        Some(byte)
+    fn of_byte(&self, byte: u8) -> Option<T> {
+        T::of_byte(byte)
     }
 }
 

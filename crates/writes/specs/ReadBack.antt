@@ -1,5 +1,5 @@
 -- Kinds read back what they wrote.
-use Rattle.std.specs.Prelude.{◌≡◌, ℕ, suc, true, false, cond, ◌&&◌, List, [], ◌∷◌, length, take, drop, pos, Some, None, Ok, Err, Result, ◌==◌, nat_eq, refl}
+use Rattle.std.specs.Prelude.{◌≡◌, ℕ, suc, true, false, cond, ◌&&◌, List, [], ◌∷◌, length, take, drop, ℤ, Some, None, Ok, Err, Result, ◌==◌, nat_eq, refl}
 use Rattle.std.proofs.Common.{sym, ap, ◌∙◌, subst, arith}
 use Rattle.std.proofs.lemmas.Bool.{false≢true}
 use Rattle.resp.specs.declared.case.Case.TheVariants as case
@@ -16,12 +16,12 @@ use Rattle.kinds.specs.declared.bounds.Bounds.{Bounds}
 use Rattle.kinds.specs.declared.fault.ElementReason.TheVariants.{Kind, Range, Count}
 use Rattle.kinds.specs.declared.fault.Fault.{Fault}
 use Rattle.kinds.specs.Fault.{refused}
-use Rattle.kinds.specs.Numbers.{integer_one, natural, natural_one, or_refuse}
+use Rattle.kinds.specs.Numbers.{integer_one, narrowed, or_refuse}
 use Rattle.kinds.specs.Plain.{bool_one, option_by, option_one, some, text_one, utf8_by, value_one}
 use Rattle.kinds.specs.Rows.{and_then, many_by, many_of, mapped, onto}
 use Rattle.kinds.specs.Texts.{case_at}
 use Rattle.kinds.specs.Tuples.{exactly, fields2, fields3, fields4, holds, is_tuple, tuple_flat, tuple_one}
-use Rattle.writes.specs.Writing.{All, ManyBack, ReadsBack, InBounds, is_solid, NaturalCan, OptionCan, OptionStands, option_written, PlaceStands, TextStands, written2, written3, written4, Stands2, Stands3, Stands4, Can2, Can3, Can4}
+use Rattle.writes.specs.Writing.{All, ManyBack, ReadsBack, InBounds, is_solid, OptionCan, OptionStands, option_written, PlaceStands, TextStands, written2, written3, written4, Stands2, Stands3, Stands4, Can2, Can3, Can4}
 use Rattle.writes.specs.Trees.{leaf_of_lem, array_of, all_inside}
 
 -- each by itself
@@ -42,8 +42,12 @@ int_back tree b z n i c e =
     let l = leaf_of_lem n (Int z) e in
     (z, ap (integer_one b) l.is ∙ ap (λ t. or_refuse Range (spot_of (OneAt l.from l.to (Int z))) (cond t (Some z) None)) c, refl)
 
-pub nat_back : (tree : Node) (b : Bounds) → ReadsBack tree (natural_one b) (NaturalCan b) (λ m. One (Int (pos m))) (λ v m. v ≡ m)
-nat_back tree b m n i c e = let (z, o, s) = int_back tree b (pos m) n i c.0 e in (m, ap natural o ∙ ap (λ w. natural (Ok w)) s, refl)
+-- the same of any type of integers: narrow is the value that an integer is, and widen the integer that a value is
+pub integer_back : {V : Type 0} (tree : Node) (b : Bounds) (narrow : ℤ → V) (widen : V → ℤ) (carried : V → Type 0) → ((v : V) → narrow (widen v) ≡ v)
+    → ReadsBack tree (λ n. narrowed narrow (integer_one b n)) (λ m. InBounds b (widen m) × carried m) (λ m. One (Int (widen m))) (λ v m. v ≡ m)
+integer_back tree b narrow widen carried same m n i c e =
+    let (z, o, s) = int_back tree b (widen m) n i c.0 e in
+    (narrow z, ap (narrowed narrow) o, ap narrow s ∙ same m)
 
 pub bool_back : (tree : Node) → ReadsBack tree bool_one (λ m. Unit {0}) (λ m. One (Boolean m)) (λ v m. v ≡ m)
 bool_back tree true n i c e = (true, ap bool_one (leaf_of_lem n (Boolean true) e).is, refl)

@@ -103,12 +103,9 @@ Can4 a b c d m = a m.0 × b m.1 × c m.2 × d m.3
 abbrev pub Stands4 : {Va A : Type 0} {Vb B : Type 0} {Vc C : Type 0} {Vd D : Type 0} → (Va → A → Type 0) → (Vb → B → Type 0) → (Vc → C → Type 0) → (Vd → D → Type 0) → Va × Vb × Vc × Vd → A × B × C × D → Type 0
 Stands4 a b c d v m = a v.0 m.0 × b v.1 m.1 × c v.2 m.2 × d v.3 m.3
 
--- an integer within the bounds; an unsigned one also below 2 ^ 63, as a reply's integer is signed
+-- an integer within the bounds
 abbrev pub InBounds : Bounds → ℤ → Type 0
 InBounds b z = (int_le b.low z && int_le z b.high) ≡ true
-
-abbrev pub NaturalCan : Bounds → ℕ → Type 0
-NaturalCan b m = InBounds b (pos m) × (m < 2 ^ 63)
 
 -- Rows at a place stand for what the rows stand for: they are just the counted ones.
 abbrev pub RowsStand : {V M : Type 0} → Node → (Node → Result (List V) Fault) → (V → M → Type 0) → Listed V → List M → Type 0

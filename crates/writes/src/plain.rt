@@ -1,85 +1,31 @@
 ghost use Rattle.std.proofs.Math.Bool as bits;
-ghost use Rattle.std.specs.Prelude.{◌≡◌, ℕ, List, ℤ, pos, None, Option};
+ghost use Rattle.std.specs.Prelude.{◌≡◌, ℕ, List, None, Option};
 ghost use Rattle.resp.specs.Reply as wire;
 ghost use Rattle.utf8.specs.Scan.{ill_formed};
-ghost use Rattle.kinds.specs.Numbers.{i64_bounds, i8_bounds, u16_bounds, u64_bounds, u8_bounds, integer_one, natural_one};
-ghost use Rattle.writes.specs.Writing.{Can2, Can3, Can4, InBounds, NaturalCan, OptionCan, OptionStands, option_written, PlaceStands, Stands2, Stands3, Stands4, TextStands, written2, written3, written4};
-ghost use Rattle.writes.specs.ReadBack.{int_back, each_back, nat_back, bool_back, text_back, value_back, option_back, back2, test2, tuples_back, back3, test3, back4, test4};
+ghost use Rattle.kinds.specs.Numbers.{bounds_from, integer_one, narrowed};
+ghost use Rattle.writes.specs.Writing.{Can2, Can3, Can4, InBounds, OptionCan, OptionStands, option_written, PlaceStands, Stands2, Stands3, Stands4, TextStands, written2, written3, written4};
+ghost use Rattle.writes.specs.ReadBack.{each_back, integer_back, bool_back, text_back, value_back, option_back, back2, test2, tuples_back, back3, test3, back4, test4};
 ghost use Rattle.resp.specs.Reply.{One, Int, Boolean, BulkString};
 ghost use Rattle.kinds.specs.Plain.{bool_one, text_one, value_one, option_one};
 ghost use Rattle.kinds.specs.Tuples.{fields2, tuple_joined, tuple_one, fields3, fields4};
 
 use crate::kind::Writes;
-use kinds::{Bool, FromRedisValue, I8, I64, Optional, Rows, Text, U8, U16, U64, Value};
+use kinds::{Bool, FromRedisValue, Integer, Optional, Rows, Text, Value, Width};
 
-impl Writes for I8 {
-    ghost Model = { ℤ };
+impl<T: Width> Writes for Integer<T> {
+    ghost Model = { T };
 
-    ghost can = { λ _. InBounds i8_bounds };
+    ghost can = { λ _ m. InBounds (bounds_from T.LOW T.HIGH) (T.widen m) × T.in_i64 m };
 
-    ghost written = { λ _ z. wire.One (wire.Int z) };
-
-    ghost stands = { λ _ _ _ v m. v ≡ m };
-
-    ghost one_back = { λ k bs tree held. int_back tree i8_bounds };
-
-    ghost many_back = { λ k bs tree held. each_back tree (integer_one i8_bounds) (InBounds i8_bounds) (λ z. One (Int z)) (λ v m. v ≡ m) (int_back tree i8_bounds) };
-}
-
-impl Writes for I64 {
-    ghost Model = { ℤ };
-
-    ghost can = { λ _. InBounds i64_bounds };
-
-    ghost written = { λ _ z. wire.One (wire.Int z) };
+    ghost written = { λ _ m. wire.One (wire.Int (T.widen m)) };
 
     ghost stands = { λ _ _ _ v m. v ≡ m };
 
-    ghost one_back = { λ k bs tree held. int_back tree i64_bounds };
+    ghost one_back = { λ k bs tree held. integer_back tree (bounds_from T.LOW T.HIGH) T.narrow T.widen T.in_i64 T.same };
 
-    ghost many_back = { λ k bs tree held. each_back tree (integer_one i64_bounds) (InBounds i64_bounds) (λ z. One (Int z)) (λ v m. v ≡ m) (int_back tree i64_bounds) };
-}
-
-impl Writes for U8 {
-    ghost Model = { ℕ };
-
-    ghost can = { λ _. NaturalCan u8_bounds };
-
-    ghost written = { λ _ m. wire.One (wire.Int (pos m)) };
-
-    ghost stands = { λ _ _ _ v m. v ≡ m };
-
-    ghost one_back = { λ k bs tree held. nat_back tree u8_bounds };
-
-    ghost many_back = { λ k bs tree held. each_back tree (natural_one u8_bounds) (NaturalCan u8_bounds) (λ m. One (Int (pos m))) (λ v m. v ≡ m) (nat_back tree u8_bounds) };
-}
-
-impl Writes for U16 {
-    ghost Model = { ℕ };
-
-    ghost can = { λ _. NaturalCan u16_bounds };
-
-    ghost written = { λ _ m. wire.One (wire.Int (pos m)) };
-
-    ghost stands = { λ _ _ _ v m. v ≡ m };
-
-    ghost one_back = { λ k bs tree held. nat_back tree u16_bounds };
-
-    ghost many_back = { λ k bs tree held. each_back tree (natural_one u16_bounds) (NaturalCan u16_bounds) (λ m. One (Int (pos m))) (λ v m. v ≡ m) (nat_back tree u16_bounds) };
-}
-
-impl Writes for U64 {
-    ghost Model = { ℕ };
-
-    ghost can = { λ _. NaturalCan u64_bounds };
-
-    ghost written = { λ _ m. wire.One (wire.Int (pos m)) };
-
-    ghost stands = { λ _ _ _ v m. v ≡ m };
-
-    ghost one_back = { λ k bs tree held. nat_back tree u64_bounds };
-
-    ghost many_back = { λ k bs tree held. each_back tree (natural_one u64_bounds) (NaturalCan u64_bounds) (λ m. One (Int (pos m))) (λ v m. v ≡ m) (nat_back tree u64_bounds) };
+    ghost many_back = { λ k bs tree held.
+        each_back tree (λ n. narrowed T.narrow (integer_one (bounds_from T.LOW T.HIGH) n)) (λ m. InBounds (bounds_from T.LOW T.HIGH) (T.widen m) × T.in_i64 m) (λ m. One (Int (T.widen m))) (λ v m. v ≡ m)
+        (integer_back tree (bounds_from T.LOW T.HIGH) T.narrow T.widen T.in_i64 T.same) };
 }
 
 impl Writes for Bool {

@@ -5,10 +5,7 @@ use Rattle.collections.specs.Maps.{entries, entry_one}
 use Rattle.collections.specs.Steps.{judged}
 use Rattle.collections.proofs.map_steps.check_entries.Given as goal
 
-abbrev pub invariant-loop-rest : goal.invariant-loop-rest
-invariant-loop-rest g l =
+abbrev pub invariant-loop-entry : goal.invariant-loop-entry
+invariant-loop-entry g l =
     let read = entry_one (g.K.FromRedisValue.one l.keys) (g.V.FromRedisValue.one l.values) in
-    judged (many_by read (entries (nodes_of l.items))) ≡ judged (many_by read (entries (nodes_of l.rest)))
-
-abbrev pub decreases-loop-rest : goal.decreases-loop-rest
-decreases-loop-rest g l = l.rest.left
+    judged (many_by read (entries (nodes_of l.items))) ≡ judged (many_by read (entries (nodes_of l.entry-iterator.rest)))

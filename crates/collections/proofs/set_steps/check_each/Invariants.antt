@@ -4,9 +4,6 @@ use Rattle.kinds.specs.Rows.{many_by}
 use Rattle.collections.specs.Steps.{judged}
 use Rattle.collections.proofs.set_steps.check_each.Given as goal
 
-abbrev pub invariant-loop-rest : goal.invariant-loop-rest
-invariant-loop-rest g l =
-    judged (many_by (g.K.FromRedisValue.one l.kind) (nodes_of l.items)) ≡ judged (many_by (g.K.FromRedisValue.one l.kind) (nodes_of l.rest))
-
-abbrev pub decreases-loop-rest : goal.decreases-loop-rest
-decreases-loop-rest g l = l.rest.left
+abbrev pub invariant-loop-reply : goal.invariant-loop-reply
+invariant-loop-reply g l =
+    judged (many_by (g.K.FromRedisValue.one l.kind) (nodes_of l.items)) ≡ judged (many_by (g.K.FromRedisValue.one l.kind) (nodes_of l.reply-iterator))

@@ -1,21 +1,20 @@
-use Rattle.std.proofs.Common.{sym, ◌∙◌, arith}
+use Rattle.std.proofs.Common.{sym, ◌∙◌}
+use Rattle.std.specs.Iterator.Adapters.{take_count, take_source}
 use Rattle.reply.specs.View.{node_of, nodes_of}
-use Rattle.kinds.proofs.RowSteps.{none_left}
 use Rattle.collections.proofs.SetSteps.{seen_here, seen_next, seen_none}
 use Rattle.collections.proofs.set_steps.is_seen.Goals as goal
 
 pub returns-then-is_same : goal.returns-then-is_same
 returns-then-is_same g c =
-    seen_here (g.K.Same.alike c.args.kind.now) (node_of c.args.reply) c.loop-rest.left _ (nodes_of c.loop-rest.rest) _ c.if-left-eq0.false
-    (c.next.ensures.items (omega (arith, c.len.ensures.left))) (sym c.if-is_same.true ∙ c.is_same.ensures)
-    ∙ sym c.loop-rest.invariant
+    seen_here (g.K.Same.alike c.args.kind.now) (node_of c.args.reply) _ _ (node_of c.in-Some.earlier) _ _ c.in-Some.ensures.steps.1 c.in-Some.ensures.steps.0.items (sym c.if-is_same.true ∙ c.is_same.ensures)
+    ∙ sym c.loop-earlier.invariant
 
-pub loop-rest-preserved : goal.loop-rest-preserved
-loop-rest-preserved g c =
-    c.loop-rest.invariant
-    ∙ seen_next (g.K.Same.alike c.args.kind.now) (node_of c.args.reply) c.loop-rest.left _ (nodes_of c.loop-rest.rest) _ c.if-left-eq0.false
-    (c.next.ensures.items (omega (arith, c.len.ensures.left))) (sym c.if-is_same.false ∙ c.is_same.ensures)
+pub loop-earlier-preserved : goal.loop-earlier-preserved
+loop-earlier-preserved g c =
+    c.loop-earlier.invariant
+    ∙ seen_next (g.K.Same.alike c.args.kind.now) (node_of c.args.reply) _ _ (node_of c.in-Some.earlier) _ _ c.in-Some.ensures.steps.1 c.in-Some.ensures.steps.0.items (sym c.if-is_same.false ∙ c.is_same.ensures)
 
 pub returns : goal.returns
 returns g c =
-    sym (c.loop-rest.invariant ∙ seen_none (g.K.Same.alike c.args.kind.now) (node_of c.args.reply) c.loop-rest.left (nodes_of c.loop-rest.rest) (none_left c.loop-rest.rest (omega (arith, c.len.ensures.left))))
+    sym (c.loop-earlier.invariant
+    ∙ seen_none (g.K.Same.alike c.args.kind.now) (node_of c.args.reply) (take_count c.loop-earlier.earlier-iterator) (nodes_of (take_source c.loop-earlier.earlier-iterator)) (λ some. (c.in-None.ensures.steps some).items))
