@@ -1,6 +1,7 @@
 -- The loop that looks for a line's end.
 use Rattle.std.proofs.Common.{◌≡◌, ℕ, zero, suc, ◌+◌, ◌-◌, ◌<◌, ◌≤◌, List, [], ◌∷◌, ◌++◌, length, get_or, take, drop, Ok, Err, sym, refl, ap, ◌∙◌, ap₂, append_assoc, arith}
-use Rattle.std.proofs.lemmas.List.{append-nil, drop_more, drop_all, take_more, get_or-drop, length-drop}
+use Rattle.std.proofs.lemmas.List.{append-nil, drop_more, drop_all, take_more, take_rest, get_or-drop, length-drop}
+use Rattle.std.specs.Prelude.{slice_range}
 use Rattle.std.proofs.lemmas.Bool.{ne_eqb}
 use Rattle.resp.specs.declared.fault.WireReason.{WireReason}
 use Rattle.resp.specs.declared.fault.WireReason.TheVariants.{NotWhole, BrokenLine, LongLine}
@@ -13,6 +14,16 @@ use Rattle.resp.specs.Told.{Told, Faulty, Lines}
 abbrev pub Left : List ℕ → ℕ → ℕ → Type 0
 Left bs at n =
     line (drop at bs) 1024 (drop (at + 1) bs) ≡ map_out (λ c. take n (drop (at + 1) bs) ++ c) (line (drop at bs) (1024 - n) (drop (at + 1 + n) bs))
+
+-- the bytes from a place on, as the loop goes over them
+pub byte_at : (bs : List ℕ) (from n : ℕ) → get_or (slice_range bs from (length bs)) n 0 ≡ get_or bs (from + n) 0
+byte_at bs from n = ap (λ l. get_or l n 0) (take_rest bs from) ∙ get_or-drop from bs n 0
+
+pub first_at : (bs : List ℕ) (from : ℕ) → get_or (slice_range bs from (length bs)) 0 0 ≡ get_or bs from 0
+first_at bs from = byte_at bs from 0 ∙ ap (λ k. get_or bs k 0) (let z : from + 0 ≡ from = omega arith in z)
+
+pub rest_length : (bs : List ℕ) (from : ℕ) → length (slice_range bs from (length bs)) ≡ length bs - from
+rest_length bs from = ap length (take_rest bs from) ∙ length-drop from bs
 
 map_out_id : {A : Type 0} (o : Out A) → map_out (λ a. a) o ≡ o
 map_out_id (ok a rest) = refl

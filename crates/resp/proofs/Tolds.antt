@@ -1,5 +1,6 @@
 -- What the answers of the parts say.
 use Rattle.std.proofs.Common.{◌≡◌, ℕ, ◌+◌, ◌-◌, ◌<◌, ◌≤◌, Bool, true, false, cond, ◌&&◌, eqb, ltb, ◌⊎◌, List, ◌∷◌, ◌++◌, length, get_or, take, drop, is_some, Some, None, Ok, Err, Option, Result, sym, refl, ap, ◌∙◌, subst, inl, inr, arith}
+use Rattle.std.specs.Prelude.{IsTrue}
 use Rattle.std.proofs.lemmas.List.{drop_all, drop-drop, drop_more, get_or-drop, length-drop, length-take-le, drop-append-le, take-append-drop}
 use Rattle.std.proofs.lemmas.Bool.{false≢true, lt-ltb, le-ltb, ltb-true, ltb-false, and_parts, and_from, eqb-true, eq-eqb}
 use Rattle.utf8.specs.Scan.{ill_formed, Located}
@@ -9,11 +10,11 @@ use Rattle.resp.specs.declared.fault.WireFault.{WireFault}
 use Rattle.resp.specs.declared.kind.Kind.{Kind}
 use Rattle.resp.specs.declared.kind.Kind.TheVariants as kind
 use Rattle.resp.specs.declared.opening.Opening.{Opening}
-use Rattle.resp.specs.Limits.{line_most}
+use Rattle.resp.specs.Limits.{line_most, items_most, pairs_most}
 use Rattle.resp.specs.Reply.{Leaf}
 use Rattle.resp.specs.Out.{Out, ok, fault, and_then, map_out}
-use Rattle.resp.specs.Reading.{line, or_content, lined, judged, is_minus_one, size_or_null, body, or_ill, text, leaf_of, a_leaf, head}
-use Rattle.resp.specs.Told.{Told, Faulty, Ends, Lines, Judged, Nullables, Opens, leaf_opening, body_end}
+use Rattle.resp.specs.Reading.{line, or_content, lined, judged, is_minus_one, size_or_null, body, or_ill, text, leaf_of, a_leaf, head, size, pushed, of_set, of_map, of_attribute}
+use Rattle.resp.specs.Told.{Told, Faulty, Ends, Lines, Judged, Sizes, Opens, leaf_opening, body_end, is_counted, most_of}
 
 pub told_ok : {A V : Type 0} (P : A → List ℕ → V → Type 0) (bs : List ℕ) (o : Out A) (v : V) → Told P bs o (Ok v)
     → (a : A) × (rest : List ℕ) × (o ≡ ok a rest) × P a rest v
@@ -30,6 +31,11 @@ pub told_stop : {A B V W : Type 0} (P : A → List ℕ → V → Type 0) (Q : B 
     → Told P bs o (Err f) → Told Q bs (and_then o k) (Err f)
 told_stop P Q k bs (ok a rest) f h = absurd h
 told_stop P Q k bs (fault n at) f h = h
+
+told_stop_map : {A B V W : Type 0} (P : A → List ℕ → V → Type 0) (Q : B → List ℕ → W → Type 0) (g : A → B) (bs : List ℕ) (o : Out A) (f : WireFault)
+    → Told P bs o (Err f) → Told Q bs (map_out g o) (Err f)
+told_stop_map P Q g bs (ok a rest) f h = absurd h
+told_stop_map P Q g bs (fault n at) f h = h
 
 pub told_map : {A B : Type 0} (g : A → B) (bs : List ℕ) (o : Out A) (r : Result ℕ WireFault) → Told (Ends bs) bs o r → Told (Ends bs) bs (map_out g o) r
 told_map g bs (ok a rest) (Ok e) h = h
@@ -125,14 +131,14 @@ module _ (bs : List ℕ) (from end : ℕ) (le : from ≤ end) (inside : end + 2 
 -- a length or a count, or -1
 module _ (most : ℕ) (bs : List ℕ) (at e : ℕ) (t : Told (Lines bs (at + 1)) bs (line (drop at bs) line_most (drop (at + 1) bs)) (Ok e)) where
   pub null_told : is_minus_one (take (e - (at + 1)) (drop (at + 1) bs)) ≡ true
-      → Told (Nullables bs) bs (size_or_null most (drop at bs) (drop (at + 1) bs)) (Ok (record { count = None; start = e + 2 }))
+      → Told (Sizes bs) bs (size_or_null most (drop at bs) (drop (at + 1) bs)) (Ok (record { count = None; start = e + 2 }))
   null_told m =
       let (c, rest, o, l) = told_ok (Lines bs (at + 1)) bs (line (drop at bs) line_most (drop (at + 1) bs)) e t in
       let is : is_minus_one c ≡ true = ap is_minus_one l.content ∙ m in
       rw (o, is) (refl, l.inside, l.after)
 
   pub null_size : is_minus_one (take (e - (at + 1)) (drop (at + 1) bs)) ≡ false → (n : ℕ) → Judged most (take (e - (at + 1)) (drop (at + 1) bs)) (Ok n)
-      → Told (Nullables bs) bs (size_or_null most (drop at bs) (drop (at + 1) bs)) (Ok (record { count = Some n; start = e + 2 }))
+      → Told (Sizes bs) bs (size_or_null most (drop at bs) (drop (at + 1) bs)) (Ok (record { count = Some n; start = e + 2 }))
   null_size m n j =
       let (c, rest, o, l) = told_ok (Lines bs (at + 1)) bs (line (drop at bs) line_most (drop (at + 1) bs)) e t in
       let is : is_minus_one c ≡ false = ap is_minus_one l.content ∙ m in
@@ -140,7 +146,7 @@ module _ (most : ℕ) (bs : List ℕ) (at e : ℕ) (t : Told (Lines bs (at + 1))
       rw (o, is, k) (refl, l.inside, l.after)
 
   pub null_fault : is_minus_one (take (e - (at + 1)) (drop (at + 1) bs)) ≡ false → at ≤ length bs → (k : WireReason) → Judged most (take (e - (at + 1)) (drop (at + 1) bs)) (Err k)
-      → Told (Nullables bs) bs (size_or_null most (drop at bs) (drop (at + 1) bs)) (Err (record { reason = k; place = at }))
+      → Told (Sizes bs) bs (size_or_null most (drop at bs) (drop (at + 1) bs)) (Err (record { reason = k; place = at }))
   null_fault m le k j =
       let (c, rest, o, l) = told_ok (Lines bs (at + 1)) bs (line (drop at bs) line_most (drop (at + 1) bs)) e t in
       let is : is_minus_one c ≡ false = ap is_minus_one l.content ∙ m in
@@ -193,3 +199,22 @@ told_lined bs j s l r q e h is = by is
     by (inr (inr (inl is))) = told_kind bs j kind.Boolean s l r q is e (lined_as kind.Boolean is)
     by (inr (inr (inr (inl is)))) = told_kind bs j kind.Double s l r q is e (lined_as kind.Double is)
     by (inr (inr (inr (inr is)))) = told_kind bs j kind.BigNumber s l r q is e (lined_as kind.BigNumber is)
+
+-- the kinds whose line is a count
+pub count_fault : (k : Kind) (most : ℕ) (bs s l : List ℕ) (f : WireFault) → IsTrue (is_counted k) → most ≡ most_of k → Told (Sizes bs) bs (size most s l) (Err f)
+    → Told (Opens bs) bs (head k s l) (Err f)
+count_fault kind.Set m bs s l f c is h = told_stop_map (Sizes bs) (Opens bs) of_set bs (size items_most s l) f (subst (λ n. Told (Sizes bs) bs (size n s l) (Err f)) is h)
+count_fault kind.Push m bs s l f c is h = told_stop (Sizes bs) (Opens bs) (pushed s) bs (size items_most s l) f (subst (λ n. Told (Sizes bs) bs (size n s l) (Err f)) is h)
+count_fault kind.Map m bs s l f c is h = told_stop_map (Sizes bs) (Opens bs) of_map bs (size pairs_most s l) f (subst (λ n. Told (Sizes bs) bs (size n s l) (Err f)) is h)
+count_fault kind.Attribute m bs s l f c is h = told_stop_map (Sizes bs) (Opens bs) of_attribute bs (size pairs_most s l) f (subst (λ n. Told (Sizes bs) bs (size n s l) (Err f)) is h)
+count_fault kind.SimpleString m bs s l f c is h = absurd (false≢true c)
+count_fault kind.SimpleError m bs s l f c is h = absurd (false≢true c)
+count_fault kind.Integer m bs s l f c is h = absurd (false≢true c)
+count_fault kind.BulkString m bs s l f c is h = absurd (false≢true c)
+count_fault kind.Array m bs s l f c is h = absurd (false≢true c)
+count_fault kind.Null m bs s l f c is h = absurd (false≢true c)
+count_fault kind.Boolean m bs s l f c is h = absurd (false≢true c)
+count_fault kind.Double m bs s l f c is h = absurd (false≢true c)
+count_fault kind.BigNumber m bs s l f c is h = absurd (false≢true c)
+count_fault kind.BulkError m bs s l f c is h = absurd (false≢true c)
+count_fault kind.VerbatimString m bs s l f c is h = absurd (false≢true c)

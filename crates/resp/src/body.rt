@@ -11,19 +11,13 @@ fn close_body(bytes: &[u8], from: usize, n: usize) -> Result<usize, WireFault>
     ensures { result ≡ body_end bytes.now from n }
 {
     if bytes.len() - from < n + 2 {
-        return Err(WireFault {
-            reason: WireReason::NotWhole,
-            place: bytes.len(),
-        });
+        return Err(WireReason::NotWhole.at(bytes.len()));
     }
     let end = from + n;
     if bytes[end] == b'\r' && bytes[end + 1] == b'\n' {
         Ok(end)
     } else {
-        Err(WireFault {
-            reason: WireReason::NotClosed,
-            place: end,
-        })
+        Err(WireReason::NotClosed.at(end))
     }
 }
 
@@ -42,9 +36,6 @@ pub(crate) fn text_end(bytes: &[u8], from: usize, end: usize) -> Result<usize, W
 {
     match ill_formed(&bytes[from..end]) {
         None => Ok(end + 2),
-        Some(i) => Err(WireFault {
-            reason: WireReason::NotUtf8,
-            place: from + i,
-        }),
+        Some(i) => Err(WireReason::NotUtf8.at(from + i)),
     }
 }

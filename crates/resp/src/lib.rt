@@ -4,6 +4,7 @@ mod body;
 mod case;
 mod fault;
 mod head;
+mod item;
 mod kind;
 mod laws;
 mod leaf;

@@ -1,14 +1,7 @@
-/// A length or a count, and where the bytes after its line start.
+/// A length or a count, and where the bytes after its line start. No count stands for -1.
 #[derive(Clone, Copy, PartialEq, Eq, Debug)]
-pub struct Size {
-    pub count: usize,
-    pub start: usize,
-}
-
-/// The same; no count stands for -1.
-#[derive(Clone, Copy, PartialEq, Eq, Debug)]
-pub struct Nullable {
-    pub count: Option<usize>,
+pub struct Size<N> {
+    pub count: N,
     pub start: usize,
 }
 
