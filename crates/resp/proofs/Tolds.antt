@@ -137,7 +137,7 @@ module _ (most : ℕ) (bs : List ℕ) (at e : ℕ) (t : Told (Lines bs (at + 1))
       let is : is_minus_one c ≡ true = ap is_minus_one l.content ∙ m in
       rw (o, is) (refl, l.inside, l.after)
 
-  pub null_size : is_minus_one (take (e - (at + 1)) (drop (at + 1) bs)) ≡ false → (n : ℕ) → Judged most (take (e - (at + 1)) (drop (at + 1) bs)) (Ok n)
+  pub null_size : is_minus_one (take (e - (at + 1)) (drop (at + 1) bs)) ≡ false → (n : ℕ) → Judged most at (take (e - (at + 1)) (drop (at + 1) bs)) (Ok n)
       → Told (Sizes bs) bs (size_or_null most (drop at bs) (drop (at + 1) bs)) (Ok (record { count = Some n; start = e + 2 }))
   null_size m n j =
       let (c, rest, o, l) = told_ok (Lines bs (at + 1)) bs (line (drop at bs) line_most (drop (at + 1) bs)) e t in
@@ -145,13 +145,13 @@ module _ (most : ℕ) (bs : List ℕ) (at e : ℕ) (t : Told (Lines bs (at + 1))
       let k : judged most (drop at bs) c rest ≡ ok n rest = ap (λ z. judged most (drop at bs) z rest) l.content ∙ j (drop at bs) rest in
       rw (o, is, k) (refl, l.inside, l.after)
 
-  pub null_fault : is_minus_one (take (e - (at + 1)) (drop (at + 1) bs)) ≡ false → at ≤ length bs → (k : WireReason) → Judged most (take (e - (at + 1)) (drop (at + 1) bs)) (Err k)
-      → Told (Sizes bs) bs (size_or_null most (drop at bs) (drop (at + 1) bs)) (Err (record { reason = k; place = at }))
-  null_fault m le k j =
+  pub null_fault : is_minus_one (take (e - (at + 1)) (drop (at + 1) bs)) ≡ false → at ≤ length bs → (f : WireFault) → Judged most at (take (e - (at + 1)) (drop (at + 1) bs)) (Err f)
+      → Told (Sizes bs) bs (size_or_null most (drop at bs) (drop (at + 1) bs)) (Err f)
+  null_fault m le g j =
       let (c, rest, o, l) = told_ok (Lines bs (at + 1)) bs (line (drop at bs) line_most (drop (at + 1) bs)) e t in
       let is : is_minus_one c ≡ false = ap is_minus_one l.content ∙ m in
-      let f : judged most (drop at bs) c rest ≡ fault k (drop at bs) = ap (λ z. judged most (drop at bs) z rest) l.content ∙ j (drop at bs) rest in
-      rw (o, is, f) (refl, le, refl)
+      let f : judged most (drop at bs) c rest ≡ fault g.reason (drop at bs) = ap (λ z. judged most (drop at bs) z rest) l.content ∙ j.1 (drop at bs) rest in
+      rw (o, is, f, j.0) (refl, le, refl)
 
 -- a line's content, as its kind takes it
 module _ {A : Type 0} (judge : List ℕ → Option A) (bs : List ℕ) (at e : ℕ) (t : Told (Lines bs (at + 1)) bs (line (drop at bs) line_most (drop (at + 1) bs)) (Ok e)) where

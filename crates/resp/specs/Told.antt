@@ -43,13 +43,10 @@ pub record Lines (bs : List ℕ) (at : ℕ) (c rest : List ℕ) (e : ℕ) : Type
 abbrev pub Sizes : {N : Type 0} → List ℕ → N → List ℕ → Size N → Type 0
 Sizes bs n rest v = (v.count ≡ n) × (v.start ≤ length bs) × (rest ≡ drop v.start bs)
 
--- what is said of the content of a length's or a count's line
-abbrev pub judgement : Result ℕ WireReason → List ℕ → List ℕ → Out ℕ
-judgement (Ok n) s rest = ok n rest
-judgement (Err k) s rest = fault k s
-
-abbrev pub Judged : ℕ → List ℕ → Result ℕ WireReason → Type 0
-Judged most c r = (s rest : List ℕ) → judged most s c rest ≡ judgement r s rest
+-- what is said of the content c of the line of a length or a count, which the item at a place tells
+abbrev pub Judged : ℕ → ℕ → List ℕ → Result ℕ WireFault → Type 0
+Judged most at c (Ok n) = (s rest : List ℕ) → judged most s c rest ≡ ok n rest
+Judged most at c (Err f) = (f.place ≡ at) × ((s rest : List ℕ) → judged most s c rest ≡ fault f.reason s)
 
 -- how many replies stand right below a head
 abbrev pub items_in : Head → ℕ

@@ -12,8 +12,7 @@ use crate::opening::{Opening, Size};
 fn leaf(end: Result<usize, WireFault>) -> Result<Opening, WireFault>
     ensures { result ≡ leaf_opening end }
 {
-    let start = end?;
-    Ok(Opening {
+    end.map(|start| Opening {
         items: 0,
         named: false,
         start,

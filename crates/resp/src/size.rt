@@ -7,18 +7,6 @@ use crate::item::Item;
 use crate::opening::Size;
 use numerals::plain_number;
 
-/// The plain number of a line, at most `most`.
-fn judge(content: &[u8], most: u64) -> Result<usize, WireReason>
-    requires { most < 2 ^ 32 }
-    ensures { Judged most content.now result }
-{
-    match plain_number(content) {
-        Some(n) if n <= most => Ok(n as usize),
-        Some(_) => Err(WireReason::Limit),
-        None => Err(WireReason::Content),
-    }
-}
-
 fn is_minus_one(content: &[u8]) -> bool
     ensures { result ≡ is_minus_one content.now }
 {
@@ -26,6 +14,18 @@ fn is_minus_one(content: &[u8]) -> bool
 }
 
 impl<'a> Item<'a> {
+    /// The plain number that is the content of the item's line, at most `most`.
+    fn plain(self, content: &[u8], most: u64) -> Result<usize, WireFault>
+        requires { most < 2 ^ 32 }
+        ensures { Judged most self.entry.at content.now result }
+    {
+        match plain_number(content) {
+            Some(n) if n <= most => Ok(n as usize),
+            Some(_) => Err(WireReason::Limit.at(self.at)),
+            None => Err(WireReason::Content.at(self.at)),
+        }
+    }
+
     /// The length or count that the item tells; -1 may stand for no value.
     pub(crate) fn size_or_null(self, most: u64) -> Result<Size<Option<usize>>, WireFault>
         requires { most < 2 ^ 32 }
@@ -33,17 +33,15 @@ impl<'a> Item<'a> {
     {
         let end = self.line_end()?;
         let content = &self.bytes[self.at + 1..end];
-        let start = end + 2;
-        if is_minus_one(content) {
-            return Ok(Size { count: None, start });
-        }
-        match judge(content, most) {
-            Ok(count) => Ok(Size {
-                count: Some(count),
-                start,
-            }),
-            Err(reason) => Err(reason.at(self.at)),
-        }
+        let count = if is_minus_one(content) {
+            None
+        } else {
+            Some(self.plain(content, most)?)
+        };
+        Ok(Size {
+            count,
+            start: end + 2,
+        })
     }
 
     /// The same where -1 stands for nothing.

@@ -52,7 +52,7 @@ fn is_string(reply: &[u8]) -> bool
 fn is_string_at(bytes: &[u8], at: usize) -> bool
     ensures { result ≡ starts_string (drop at bytes.now) }
 {
-    at < bytes.len() && is_string(&bytes[at..])
+    bytes.get(at..).is_some_and(is_string)
 }
 
 /// The end of a push's first item, which is at `at` and has been read: it has to be a string.
