@@ -33,14 +33,14 @@ impl<'a> Item<'a> {
     {
         let end = self.line_end()?;
         let content = &self.bytes[self.at + 1..end];
-        let count = if is_minus_one(content) {
-            None
-        } else {
-            Some(self.plain(content, most)?)
-        };
+        let start = end + 2;
+        if is_minus_one(content) {
+            return Ok(Size { count: None, start });
+        }
+        let count = self.plain(content, most)?;
         Ok(Size {
-            count,
-            start: end + 2,
+            count: Some(count),
+            start,
         })
     }
 
