@@ -1,11 +1,11 @@
 -- What the answers of the parts say.
-use Rattle.std.proofs.Common.{◌≡◌, ℕ, ◌+◌, ◌-◌, ◌<◌, ◌≤◌, Bool, true, false, cond, ◌&&◌, eqb, ltb, ◌⊎◌, List, ◌∷◌, ◌++◌, length, get_or, take, drop, is_some, Some, None, Ok, Err, Option, Result, sym, refl, ap, ◌∙◌, subst, inl, inr, arith}
+use Rattle.std.proofs.Common.{◌≡◌, ℕ, ◌+◌, ◌-◌, ◌<◌, ◌≤◌, true, false, ◌⊎◌, List, ◌∷◌, ◌++◌, length, take, drop, is_some, Some, None, Ok, Err, Option, Result, sym, refl, ap, ◌∙◌, subst, inl, inr, arith}
 use Rattle.std.specs.Prelude.{IsTrue}
-use Rattle.std.proofs.lemmas.List.{drop_all, drop-drop, drop_more, get_or-drop, length-drop, length-take-le, drop-append-le, take-append-drop}
-use Rattle.std.proofs.lemmas.Bool.{false≢true, lt-ltb, le-ltb, ltb-true, ltb-false, and_parts, and_from, eqb-true, eq-eqb}
+use Rattle.std.proofs.lemmas.List.{drop-drop, length-drop, length-take-le, drop-append-le, take-append-drop}
+use Rattle.std.proofs.lemmas.Bool.{false≢true}
 use Rattle.utf8.specs.Scan.{ill_formed, Located}
 use Rattle.resp.specs.declared.fault.WireReason.{WireReason}
-use Rattle.resp.specs.declared.fault.WireReason.TheVariants.{NotWhole, Content, NotClosed, NotUtf8}
+use Rattle.resp.specs.declared.fault.WireReason.TheVariants.{Content, NotUtf8}
 use Rattle.resp.specs.declared.fault.WireFault.{WireFault}
 use Rattle.resp.specs.declared.kind.Kind.{Kind}
 use Rattle.resp.specs.declared.kind.Kind.TheVariants as kind
@@ -13,8 +13,8 @@ use Rattle.resp.specs.declared.opening.Opening.{Opening}
 use Rattle.resp.specs.Limits.{line_most, items_most, pairs_most}
 use Rattle.resp.specs.Reply.{Leaf}
 use Rattle.resp.specs.Out.{Out, ok, fault, and_then, map_out}
-use Rattle.resp.specs.Reading.{line, or_content, lined, judged, is_minus_one, size_or_null, body, or_ill, text, leaf_of, a_leaf, head, size, pushed, of_set, of_map, of_attribute}
-use Rattle.resp.specs.Told.{Told, Faulty, Ends, Lines, Judged, Sizes, Opens, leaf_opening, body_end, is_counted, most_of}
+use Rattle.resp.specs.Reading.{line, or_content, lined, judged, is_minus_one, size_or_null, or_ill, text, leaf_of, a_leaf, head, size, pushed, of_set, of_map, of_attribute}
+use Rattle.resp.specs.Told.{Told, Faulty, Ends, Lines, Judged, Sizes, Opens, leaf_opening, is_counted, most_of}
 
 pub told_ok : {A V : Type 0} (P : A → List ℕ → V → Type 0) (bs : List ℕ) (o : Out A) (v : V) → Told P bs o (Ok v)
     → (a : A) × (rest : List ℕ) × (o ≡ ok a rest) × P a rest v
@@ -36,77 +36,6 @@ told_stop_map : {A B V W : Type 0} (P : A → List ℕ → V → Type 0) (Q : B 
     → Told P bs o (Err f) → Told Q bs (map_out g o) (Err f)
 told_stop_map P Q g bs (ok a rest) f h = absurd h
 told_stop_map P Q g bs (fault n at) f h = h
-
-pub told_map : {A B : Type 0} (g : A → B) (bs : List ℕ) (o : Out A) (r : Result ℕ WireFault) → Told (Ends bs) bs o r → Told (Ends bs) bs (map_out g o) r
-told_map g bs (ok a rest) (Ok e) h = h
-told_map g bs (ok a rest) (Err f) h = h
-told_map g bs (fault k at) (Ok e) h = h
-told_map g bs (fault k at) (Err f) h = h
-
-not_so : (b : Bool) → (b ≡ true → ⊥) → b ≡ false
-not_so true h = absurd (h refl)
-not_so false h = refl
-
--- a line's end lies inside the bytes
-pub line_inside : (bs : List ℕ) (at e : ℕ) → Told (Lines bs (at + 1)) bs (line (drop at bs) line_most (drop (at + 1) bs)) (Ok e) → (at + 1 ≤ e) × (e + 2 ≤ length bs)
-line_inside bs at e t = let (c, rest, o, l) = told_ok (Lines bs (at + 1)) bs (line (drop at bs) line_most (drop (at + 1) bs)) e t in (l.from, l.inside)
-
--- bodies
-module _ (bs : List ℕ) (at n : ℕ) (le : at ≤ length bs) where
-  pub body_short : length bs - at < n + 2 → Told (Lines bs at) bs (body n (drop at bs)) (Err (record { reason = NotWhole; place = length bs }))
-  body_short h =
-      let t : ltb (length (drop at bs)) (n + 2) ≡ true = lt-ltb _ _ (rw length-drop h) in
-      rw t (refl, omega arith, sym (drop_all (length bs) bs (omega arith)))
-
-  body_long : n + 2 ≤ length bs - at → ltb (length (drop at bs)) (n + 2) ≡ false
-  body_long h = le-ltb _ _ (rw length-drop h)
-
-  next_at : at + (n + 1) ≡ at + n + 1
-  next_at = omega arith
-
-  pub body_closed : n + 2 ≤ length bs - at → get_or bs (at + n) 0 ≡ 13 → get_or bs (at + n + 1) 0 ≡ 10 → Told (Lines bs at) bs (body n (drop at bs)) (Ok (at + n))
-  body_closed h a b =
-      let t = body_long h in
-      let x : get_or (drop at bs) n 0 ≡ 13 = get_or-drop at bs n 0 ∙ a in
-      let y : get_or (drop at bs) (n + 1) 0 ≡ 10 = get_or-drop at bs (n + 1) 0 ∙ ap (λ k. get_or bs k 0) next_at ∙ b in
-      let z : at + (n + 2) ≡ at + n + 2 = omega arith in
-      let two : at + n + 1 + 1 ≡ at + n + 2 = omega arith in
-      let sub : at + n - at ≡ n = omega arith in
-      let rest : drop (n + 2) (drop at bs) ≡ drop (at + n + 2) bs = drop-drop (n + 2) at bs ∙ ap (λ k. drop k bs) z in
-      let one = drop_more bs (at + n) 0 (omega arith) in
-      let next = drop_more bs (at + n + 1) 0 (omega arith) in
-      rw (t, x, y)
-      (record {
-        from = omega arith;
-        inside = omega arith;
-        content = ap (λ k. take k (drop at bs)) (sym sub);
-        after = rest;
-        closed = cc (one, next, a, b, two, rest);
-      })
-
-  pub body_open : n + 2 ≤ length bs - at → (get_or bs (at + n) 0 ≡ 13 → get_or bs (at + n + 1) 0 ≡ 10 → ⊥)
-      → Told (Lines bs at) bs (body n (drop at bs)) (Err (record { reason = NotClosed; place = at + n }))
-  body_open h bad =
-      let u : (eqb (get_or (drop at bs) n 0) 13 && eqb (get_or (drop at bs) (n + 1) 0) 10) ≡ false =
-      not_so _ (λ w.
-      let p = and_parts (eqb (get_or (drop at bs) n 0) 13) _ w in
-      bad (sym (get_or-drop at bs n 0) ∙ eqb-true _ _ p.0) (sym (get_or-drop at bs (n + 1) 0 ∙ ap (λ k. get_or bs k 0) next_at) ∙ eqb-true _ _ p.1)) in
-      rw (body_long h, u) (refl, omega arith, drop-drop n at bs)
-
-pub body_told : (bs : List ℕ) (at n : ℕ) → at ≤ length bs → Told (Lines bs at) bs (body n (drop at bs)) (body_end bs at n)
-body_told bs at n le = by (ltb (length bs - at) (n + 2)) refl
-  where
-    closes : List ℕ → Bool
-    closes l = eqb (get_or l (at + n) 0) 13 && eqb (get_or l (at + n + 1) 0) 10
-
-    inner : (t : Bool) → closes bs ≡ t → n + 2 ≤ length bs - at → Told (Lines bs at) bs (body n (drop at bs)) (cond t (Ok (at + n)) (Err (record { reason = NotClosed; place = at + n })))
-    inner true e long = let p = and_parts (eqb (get_or bs (at + n) 0) 13) _ e in body_closed bs at n le long (eqb-true _ _ p.0) (eqb-true _ _ p.1)
-    inner false e long = body_open bs at n le long (λ a b. false≢true (sym e ∙ and_from _ _ (eq-eqb _ _ a) (eq-eqb _ _ b)))
-
-    by : (t : Bool) → ltb (length bs - at) (n + 2) ≡ t
-        → Told (Lines bs at) bs (body n (drop at bs)) (cond t (Err (record { reason = NotWhole; place = length bs })) (cond (closes bs) (Ok (at + n)) (Err (record { reason = NotClosed; place = at + n }))))
-    by true e = body_short bs at n le (ltb-true _ _ e)
-    by false e = inner (closes bs) refl (ltb-false _ _ e)
 
 -- texts
 module _ (bs : List ℕ) (from end : ℕ) (le : from ≤ end) (inside : end + 2 ≤ length bs) (closed : drop end bs ≡ 13 ∷ 10 ∷ drop (end + 2) bs) where
