@@ -3,6 +3,7 @@ use Rattle.std.proofs.Common.{◌≡◌, ℕ, zero, suc, ◌+◌, ◌-◌, ◌<�
 use Rattle.std.proofs.lemmas.List.{append-nil, drop_more, take_more, take_rest, get_or-drop, length-drop}
 use Rattle.std.specs.Prelude.{slice_range}
 use Rattle.std.proofs.lemmas.Bool.{ne_eqb}
+use Rattle.resp.specs.declared.closed.Closed.{Closed}
 use Rattle.resp.specs.Out.{Out, ok, fault, map_out}
 use Rattle.resp.specs.Reading.{line, closing}
 use Rattle.resp.specs.Told.{Told, Lines}
@@ -60,21 +61,20 @@ module _ (bs : List ℕ) (at n : ℕ) (e : Left bs at n) where
   after_cr : at + 1 + n < length bs → get_or bs (at + 1 + n) 0 ≡ 13 → line (drop at bs) (1024 - n) (drop (at + 1 + n) bs) ≡ closing (drop at bs) (drop (at + 1 + n + 1) bs)
   after_cr lt b = ap (line (drop at bs) (1024 - n)) (drop_more bs (at + 1 + n) 0 lt) ∙ line_cr (drop at bs) (1024 - n) (get_or bs (at + 1 + n) 0) (drop (at + 1 + n + 1) bs) b
 
-  pub told_cr_lf : at + 1 + n + 1 < length bs → get_or bs (at + 1 + n) 0 ≡ 13 → get_or bs (at + 1 + n + 1) 0 ≡ 10
-      → Told (Lines bs (at + 1)) bs (line (drop at bs) 1024 (drop (at + 1) bs)) (Ok (at + 1 + n))
-  told_cr_lf lt b lf =
+  pub told_cr_lf : (v : Closed) → v.bytes.now ≡ bs → v.from ≡ at + 1 → v.end ≡ at + 1 + n → at + 1 + n + 1 < length bs → get_or bs (at + 1 + n) 0 ≡ 13 → get_or bs (at + 1 + n + 1) 0 ≡ 10
+      → Told (Lines bs (at + 1)) bs (line (drop at bs) 1024 (drop (at + 1) bs)) (Ok v)
+  told_cr_lf v bytes from end lt b lf =
       let l = drop (at + 1) bs in
       let k = drop_more bs (at + 1 + n + 1) 0 lt in
       let c : closing (drop at bs) (get_or bs (at + 1 + n + 1) 0 ∷ drop (at + 1 + n + 1 + 1) bs) ≡ ok [] (drop (at + 1 + n + 1 + 1) bs) = rw lf in
       let o = after_cr (omega arith) b ∙ ap (closing (drop at bs)) k ∙ c in
       let w : line (drop at bs) 1024 l ≡ ok (take n l ++ []) (drop (at + 1 + n + 1 + 1) bs) = e ∙ ap (map_out (λ c. take n l ++ c)) o in
-      let two : at + 1 + n + 1 + 1 ≡ at + 1 + n + 2 = omega arith in
-      let sub : at + 1 + n - (at + 1) ≡ n = omega arith in
+      let two : at + 1 + n + 1 + 1 ≡ v.end + 2 = omega arith in
+      let sub : v.end - v.from ≡ n = omega arith in
       rw w
       (record {
-        from = omega arith;
-        inside = omega arith;
-        content = append-nil (take n l) ∙ ap (λ k. take k l) (sym sub);
-        after = ap (λ k. drop k bs) two;
-        closed = drop_more bs (at + 1 + n) 0 (omega arith) ∙ ap₂ ◌∷◌ b (k ∙ ap (λ z. z ∷ drop (at + 1 + n + 1 + 1) bs) lf);
+        bytes = bytes;
+        from = from;
+        content = append-nil (take n l) ∙ ap₂ take (sym sub) (ap₂ drop (sym from) (sym bytes));
+        after = ap₂ drop two (sym bytes);
       })

@@ -1,20 +1,21 @@
 -- What the answers of the parts say.
-use Rattle.std.proofs.Common.{◌≡◌, ℕ, ◌+◌, ◌-◌, ◌<◌, ◌≤◌, true, false, ◌⊎◌, List, ◌∷◌, ◌++◌, length, take, drop, is_some, Some, None, Ok, Err, Option, Result, sym, refl, ap, ◌∙◌, subst, inl, inr, arith}
+use Rattle.std.proofs.Common.{◌≡◌, ℕ, ◌+◌, ◌-◌, ◌<◌, ◌⊎◌, List, ◌∷◌, ◌++◌, length, take, drop, Some, None, Ok, Err, Option, Result, sym, refl, ap, ◌∙◌, subst, inl, inr, arith}
 use Rattle.std.specs.Prelude.{IsTrue}
 use Rattle.std.proofs.lemmas.List.{drop-drop, length-drop, length-take-le, drop-append-le, take-append-drop}
 use Rattle.std.proofs.lemmas.Bool.{false≢true}
 use Rattle.utf8.specs.Scan.{ill_formed, Located}
 use Rattle.resp.specs.declared.fault.WireReason.{WireReason}
-use Rattle.resp.specs.declared.fault.WireReason.TheVariants.{Content, NotUtf8}
+use Rattle.resp.specs.declared.fault.WireReason.TheVariants.{NotUtf8}
 use Rattle.resp.specs.declared.fault.WireFault.{WireFault}
 use Rattle.resp.specs.declared.kind.Kind.{Kind}
 use Rattle.resp.specs.declared.kind.Kind.TheVariants as kind
+use Rattle.resp.specs.declared.closed.Closed.{Closed}
 use Rattle.resp.specs.declared.opening.Opening.{Opening}
-use Rattle.resp.specs.Limits.{line_most, items_most, pairs_most}
+use Rattle.resp.specs.Limits.{items_most, pairs_most}
 use Rattle.resp.specs.Reply.{Leaf}
 use Rattle.resp.specs.Out.{Out, ok, fault, and_then, map_out}
-use Rattle.resp.specs.Reading.{line, or_content, lined, judged, is_minus_one, size_or_null, or_ill, text, leaf_of, a_leaf, head, size, pushed, of_set, of_map, of_attribute}
-use Rattle.resp.specs.Told.{Told, Faulty, Ends, Lines, Judged, Sizes, Opens, leaf_opening, is_counted, most_of}
+use Rattle.resp.specs.Reading.{lined, or_ill, text, leaf_of, a_leaf, head, size, pushed, of_set, of_map, of_attribute}
+use Rattle.resp.specs.Told.{held, left_after, Told, Faulty, Ends, Sizes, Opens, leaf_opening, is_counted, most_of}
 
 pub told_ok : {A V : Type 0} (P : A → List ℕ → V → Type 0) (bs : List ℕ) (o : Out A) (v : V) → Told P bs o (Ok v)
     → (a : A) × (rest : List ℕ) × (o ≡ ok a rest) × P a rest v
@@ -38,70 +39,24 @@ told_stop_map P Q g bs (ok a rest) f h = absurd h
 told_stop_map P Q g bs (fault n at) f h = h
 
 -- texts
-module _ (bs : List ℕ) (from end : ℕ) (le : from ≤ end) (inside : end + 2 ≤ length bs) (closed : drop end bs ≡ 13 ∷ 10 ∷ drop (end + 2) bs) where
-  pub text_ill : (i : ℕ) → Located (take (end - from) (drop from bs)) (ill_formed (take (end - from) (drop from bs))) (Some i)
-      → Told (Ends bs) bs (text (take (end - from) (drop from bs)) (drop (end + 2) bs)) (Err (record { reason = NotUtf8; place = from + i }))
-  text_ill i h = go (ill_formed (take (end - from) (drop from bs))) h
+module _ (v : Closed) where
+  pub text_ill : (i : ℕ) → Located (held v) (ill_formed (held v)) (Some i)
+      → Told (Ends v.bytes.now) v.bytes.now (text (held v) (left_after v)) (Err (record { reason = NotUtf8; place = v.from + i }))
+  text_ill i h = go (ill_formed (held v)) h
     where
-      place : i < length (take (end - from) (drop from bs)) → drop i (take (end - from) (drop from bs)) ++ (13 ∷ 10 ∷ drop (end + 2) bs) ≡ drop (from + i) bs
+      place : i < length (held v) → drop i (held v) ++ (13 ∷ 10 ∷ left_after v) ≡ drop (v.from + i) v.bytes.now
       place lt =
-          let m = end - from in
-          let l = drop from bs in
-          let back : drop m l ≡ drop end bs = drop-drop m from bs ∙ ap (λ k. drop k bs) (let z : from + (end - from) ≡ end = omega arith in z) in
-          ap (λ z. drop i (take m l) ++ z) (sym (back ∙ closed)) ∙ sym (drop-append-le i (take m l) (drop m l) (omega arith)) ∙ ap (drop i) (take-append-drop m l) ∙ drop-drop i from bs
+          let bs = v.bytes.now in
+          let m = v.end - v.from in
+          let l = drop v.from bs in
+          let back : drop m l ≡ drop v.end bs = drop-drop m v.from bs ∙ ap (λ k. drop k bs) (let z : v.from + (v.end - v.from) ≡ v.end = omega (arith, v.ordered) in z) in
+          ap (λ z. drop i (take m l) ++ z) (sym (back ∙ v.closed)) ∙ sym (drop-append-le i (take m l) (drop m l) (omega arith)) ∙ ap (drop i) (take-append-drop m l) ∙ drop-drop i v.from bs
 
-      go : (o : Option (List ℕ)) → Located (take (end - from) (drop from bs)) o (Some i)
-          → Told (Ends bs) bs (or_ill o (take (end - from) (drop from bs)) (drop (end + 2) bs)) (Err (record { reason = NotUtf8; place = from + i }))
+      go : (o : Option (List ℕ)) → Located (held v) o (Some i) → Told (Ends v.bytes.now) v.bytes.now (or_ill o (held v) (left_after v)) (Err (record { reason = NotUtf8; place = v.from + i }))
       go None h = absurd h
       go (Some t) h =
-          let len : length (take (end - from) (drop from bs)) ≡ end - from = length-take-le (end - from) (drop from bs) (rw length-drop (omega arith)) in
-          (refl, omega (arith, h.0), ap (λ z. z ++ (13 ∷ 10 ∷ drop (end + 2) bs)) h.1 ∙ place h.0)
-
--- a length or a count, or -1
-module _ (most : ℕ) (bs : List ℕ) (at e : ℕ) (t : Told (Lines bs (at + 1)) bs (line (drop at bs) line_most (drop (at + 1) bs)) (Ok e)) where
-  pub null_told : is_minus_one (take (e - (at + 1)) (drop (at + 1) bs)) ≡ true
-      → Told (Sizes bs) bs (size_or_null most (drop at bs) (drop (at + 1) bs)) (Ok (record { count = None; start = e + 2 }))
-  null_told m =
-      let (c, rest, o, l) = told_ok (Lines bs (at + 1)) bs (line (drop at bs) line_most (drop (at + 1) bs)) e t in
-      let is : is_minus_one c ≡ true = ap is_minus_one l.content ∙ m in
-      rw (o, is) (refl, l.inside, l.after)
-
-  pub null_size : is_minus_one (take (e - (at + 1)) (drop (at + 1) bs)) ≡ false → (n : ℕ) → Judged most at (take (e - (at + 1)) (drop (at + 1) bs)) (Ok n)
-      → Told (Sizes bs) bs (size_or_null most (drop at bs) (drop (at + 1) bs)) (Ok (record { count = Some n; start = e + 2 }))
-  null_size m n j =
-      let (c, rest, o, l) = told_ok (Lines bs (at + 1)) bs (line (drop at bs) line_most (drop (at + 1) bs)) e t in
-      let is : is_minus_one c ≡ false = ap is_minus_one l.content ∙ m in
-      let k : judged most (drop at bs) c rest ≡ ok n rest = ap (λ z. judged most (drop at bs) z rest) l.content ∙ j (drop at bs) rest in
-      rw (o, is, k) (refl, l.inside, l.after)
-
-  pub null_fault : is_minus_one (take (e - (at + 1)) (drop (at + 1) bs)) ≡ false → at ≤ length bs → (f : WireFault) → Judged most at (take (e - (at + 1)) (drop (at + 1) bs)) (Err f)
-      → Told (Sizes bs) bs (size_or_null most (drop at bs) (drop (at + 1) bs)) (Err f)
-  null_fault m le g j =
-      let (c, rest, o, l) = told_ok (Lines bs (at + 1)) bs (line (drop at bs) line_most (drop (at + 1) bs)) e t in
-      let is : is_minus_one c ≡ false = ap is_minus_one l.content ∙ m in
-      let f : judged most (drop at bs) c rest ≡ fault g.reason (drop at bs) = ap (λ z. judged most (drop at bs) z rest) l.content ∙ j.1 (drop at bs) rest in
-      rw (o, is, f, j.0) (refl, le, refl)
-
--- a line's content, as its kind takes it
-module _ {A : Type 0} (judge : List ℕ → Option A) (bs : List ℕ) (at e : ℕ) (t : Told (Lines bs (at + 1)) bs (line (drop at bs) line_most (drop (at + 1) bs)) (Ok e)) where
-  pub line_fits : is_some (judge (take (e - (at + 1)) (drop (at + 1) bs))) ≡ true → Told (Ends bs) bs (lined judge (drop at bs) (drop (at + 1) bs)) (Ok (e + 2))
-  line_fits h =
-      let (c, rest, o, l) = told_ok (Lines bs (at + 1)) bs (line (drop at bs) line_most (drop (at + 1) bs)) e t in
-      rw o (go (judge c) rest (ap (λ z. is_some (judge z)) l.content ∙ h) (l.inside, l.after))
-    where
-      go : (o : Option A) (rest : List ℕ) → is_some o ≡ true → (e + 2 ≤ length bs) × (rest ≡ drop (e + 2) bs) → Told (Ends bs) bs (or_content (drop at bs) o rest) (Ok (e + 2))
-      go (Some a) rest h w = w
-      go None rest h w = absurd (false≢true h)
-
-  pub line_misfits : at ≤ length bs → is_some (judge (take (e - (at + 1)) (drop (at + 1) bs))) ≡ false
-      → Told (Ends bs) bs (lined judge (drop at bs) (drop (at + 1) bs)) (Err (record { reason = Content; place = at }))
-  line_misfits le h =
-      let (c, rest, o, l) = told_ok (Lines bs (at + 1)) bs (line (drop at bs) line_most (drop (at + 1) bs)) e t in
-      rw o (go (judge c) rest (ap (λ z. is_some (judge z)) l.content ∙ h))
-    where
-      go : (o : Option A) (rest : List ℕ) → is_some o ≡ false → Told (Ends bs) bs (or_content (drop at bs) o rest) (Err (record { reason = Content; place = at }))
-      go (Some a) rest h = absurd (false≢true (sym h))
-      go None rest h = (refl, le, refl)
+          let len : length (held v) ≡ v.end - v.from = length-take-le (v.end - v.from) (drop v.from v.bytes.now) (rw length-drop (omega (arith, v.inside))) in
+          (refl, omega (arith, h.0, v.inside, v.ordered), ap (λ z. z ++ (13 ∷ 10 ∷ left_after v)) h.1 ∙ place h.0)
 
 -- a leaf, as an opening
 pub told_leaf : {A : Type 0} (g : A → Leaf) (bs : List ℕ) (o : Out A) (r : Result ℕ WireFault) → Told (Ends bs) bs o r → Told (Opens bs) bs (map_out (λ a. a_leaf (g a)) o) (leaf_opening r)

@@ -6,6 +6,7 @@ use Rattle.resp.specs.declared.fault.WireFault.{WireFault}
 use Rattle.resp.specs.declared.opening.Opening.{Opening}
 use Rattle.resp.specs.declared.opening.Size.{Size}
 use Rattle.resp.specs.declared.item.Item.{Item}
+use Rattle.resp.specs.declared.closed.Closed.{Closed}
 use Rattle.resp.specs.declared.kind.Kind.{Kind}
 use Rattle.resp.specs.declared.kind.Kind.TheVariants as kind
 use Rattle.resp.specs.Limits.{items_most, pairs_most}
@@ -31,13 +32,19 @@ Tells P f i r = Told (P i.bytes.now) i.bytes.now (f (drop i.at i.bytes.now) (dro
 abbrev pub Ends : {A : Type 0} → List ℕ → A → List ℕ → ℕ → Type 0
 Ends bs a rest e = (e ≤ length bs) × (rest ≡ drop e bs)
 
--- the bytes c, from `at` on, end with the CR LF at e
-pub record Lines (bs : List ℕ) (at : ℕ) (c rest : List ℕ) (e : ℕ) : Type 0 where
-  pub from : at ≤ e
-  pub inside : e + 2 ≤ length bs
-  pub content : c ≡ slice_range bs at e
-  pub after : rest ≡ drop (e + 2) bs
-  pub closed : drop e bs ≡ 13 ∷ 10 ∷ rest
+-- what a content holds, and the bytes after its CR LF
+abbrev pub held : Closed → List ℕ
+held v = slice_range v.bytes.now v.from v.end
+
+abbrev pub left_after : Closed → List ℕ
+left_after v = drop (v.end + 2) v.bytes.now
+
+-- of the bytes bs from `at` on, c was read and `rest` is left: they are what the content v holds, and what follows it
+pub record Lines (bs : List ℕ) (at : ℕ) (c rest : List ℕ) (v : Closed) : Type 0 where
+  pub bytes : v.bytes.now ≡ bs
+  pub from : v.from ≡ at
+  pub content : c ≡ held v
+  pub after : rest ≡ left_after v
 
 -- a length or a count, and where the bytes after its line start
 abbrev pub Sizes : {N : Type 0} → List ℕ → N → List ℕ → Size N → Type 0

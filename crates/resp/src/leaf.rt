@@ -4,7 +4,7 @@ ghost use Rattle.resp.specs.Out.{and_then};
 ghost use Rattle.resp.specs.Reading.{body, boolean_leaf, bulk, is_verbatim, leaf_of, lined, size as sized, size_or_null, text, text_line, verbatim};
 ghost use Rattle.resp.specs.Told.{Ends, Tells};
 
-use crate::body::{body_end, text_end};
+use crate::body::body;
 use crate::fault::{WireFault, WireReason};
 use crate::item::Item;
 use crate::kind::Kind;
@@ -45,9 +45,9 @@ impl<'a> Item<'a> {
     pub(crate) fn content_line(self, kind: Kind) -> Result<usize, WireFault>
         ensures { Tells Ends (lined (leaf_of kind)) self.entry result }
     {
-        let end = self.line_end()?;
-        if fits(kind, &self.bytes[self.at + 1..end]) {
-            Ok(end + 2)
+        let line = self.line()?;
+        if fits(kind, line.held()) {
+            Ok(line.after())
         } else {
             Err(WireReason::Content.at(self.at))
         }
@@ -57,8 +57,7 @@ impl<'a> Item<'a> {
     pub(crate) fn text_line(self) -> Result<usize, WireFault>
         ensures { Tells Ends text_line self.entry result }
     {
-        let end = self.line_end()?;
-        text_end(self.bytes, self.at + 1, end)
+        self.line()?.text_end()
     }
 
     /// Where a bulk string ends.
@@ -69,8 +68,7 @@ impl<'a> Item<'a> {
         let Some(count) = count else {
             return Ok(start);
         };
-        let end = body_end(self.bytes, start, count)?;
-        Ok(end + 2)
+        Ok(body(self.bytes, start, count)?.after())
     }
 
     /// Where a bulk error ends.
@@ -78,8 +76,7 @@ impl<'a> Item<'a> {
         ensures { Tells Ends (λ s bs. and_then (sized length_most s bs) (λ n more. and_then (body n more) text)) self.entry result }
     {
         let Size { count, start } = self.size(LENGTH_MOST)?;
-        let end = body_end(self.bytes, start, count)?;
-        text_end(self.bytes, start, end)
+        body(self.bytes, start, count)?.text_end()
     }
 
     /// Where a verbatim string ends.
@@ -87,9 +84,9 @@ impl<'a> Item<'a> {
         ensures { Tells Ends (λ s bs. and_then (sized length_most s bs) (λ n more. and_then (body n more) (verbatim s))) self.entry result }
     {
         let Size { count, start } = self.size(LENGTH_MOST)?;
-        let close = body_end(self.bytes, start, count)?;
-        if has_format(&self.bytes[start..close]) {
-            text_end(self.bytes, start, close)
+        let body = body(self.bytes, start, count)?;
+        if has_format(body.held()) {
+            body.text_end()
         } else {
             Err(WireReason::Content.at(self.at))
         }

@@ -2,6 +2,7 @@
 
 mod body;
 mod case;
+mod closed;
 mod fault;
 mod head;
 mod item;

@@ -3,13 +3,14 @@ ghost use Rattle.resp.specs.Limits.{line_most};
 ghost use Rattle.resp.specs.Reading.{line};
 ghost use Rattle.resp.specs.Told.{Lines, Tells};
 
+use crate::closed::Closed;
 use crate::fault::{WireFault, WireReason};
 use crate::item::Item;
 use crate::limits::LINE_MOST;
 
 impl<'a> Item<'a> {
-    /// Where the item's line ends: the place of its CR LF. The content starts after the item's first byte.
-    pub(crate) fn line_end(self) -> Result<usize, WireFault>
+    /// The item's line, whose content starts after the item's first byte.
+    pub(crate) fn line(self) -> Result<Closed<'a>, WireFault>
         ensures { Tells (λ bs. Lines bs (self.entry.at + 1)) (λ s. line s line_most) self.entry result }
     {
         let from = self.at + 1;
@@ -17,7 +18,11 @@ impl<'a> Item<'a> {
             match *byte as char {
                 '\r' => return match &self.bytes[from + n + 1..] {
                     [] => Err(WireReason::NotWhole.at(self.bytes.len())),
-                    [b'\n', ..] => Ok(from + n),
+                    [b'\n', ..] => Ok(Closed {
+                        bytes: self.bytes,
+                        from,
+                        end: from + n,
+                    }),
                     _ => Err(WireReason::BrokenLine.at(self.at)),
                 },
                 '\n' => return Err(WireReason::BrokenLine.at(self.at)),

@@ -31,9 +31,9 @@ impl<'a> Item<'a> {
         requires { most < 2 ^ 32 }
         ensures { Tells Sizes (size_or_null most) self.entry result }
     {
-        let end = self.line_end()?;
-        let content = &self.bytes[self.at + 1..end];
-        let start = end + 2;
+        let line = self.line()?;
+        let content = line.held();
+        let start = line.after();
         if is_minus_one(content) {
             return Ok(Size { count: None, start });
         }
