@@ -1,8 +1,6 @@
 -- What the answers of the parts say.
 use Rattle.std.proofs.Common.{◌≡◌, ℕ, ◌+◌, ◌-◌, ◌<◌, ◌⊎◌, List, ◌∷◌, ◌++◌, length, take, drop, Some, None, Ok, Err, Option, Result, sym, refl, ap, ◌∙◌, subst, inl, inr, arith}
-use Rattle.std.specs.Prelude.{IsTrue}
 use Rattle.std.proofs.lemmas.List.{drop-drop, length-drop, length-take-le, drop-append-le, take-append-drop}
-use Rattle.std.proofs.lemmas.Bool.{false≢true}
 use Rattle.utf8.specs.Scan.{ill_formed, Located}
 use Rattle.resp.specs.declared.fault.WireReason.{WireReason}
 use Rattle.resp.specs.declared.fault.WireReason.TheVariants.{NotUtf8}
@@ -11,11 +9,10 @@ use Rattle.resp.specs.declared.kind.Kind.{Kind}
 use Rattle.resp.specs.declared.kind.Kind.TheVariants as kind
 use Rattle.resp.specs.declared.closed.Closed.{Closed}
 use Rattle.resp.specs.declared.opening.Opening.{Opening}
-use Rattle.resp.specs.Limits.{items_most, pairs_most}
 use Rattle.resp.specs.Reply.{Leaf}
 use Rattle.resp.specs.Out.{Out, ok, fault, and_then, map_out}
-use Rattle.resp.specs.Reading.{lined, or_ill, text, leaf_of, a_leaf, head, size, pushed, of_set, of_map, of_attribute}
-use Rattle.resp.specs.Told.{held, left_after, Told, Faulty, Ends, Sizes, Opens, leaf_opening, is_counted, most_of}
+use Rattle.resp.specs.Reading.{lined, or_ill, text, leaf_of, a_leaf, head}
+use Rattle.resp.specs.Told.{held, left_after, Told, Faulty, Ends, Opens, leaf_opening}
 
 pub told_ok : {A V : Type 0} (P : A → List ℕ → V → Type 0) (bs : List ℕ) (o : Out A) (v : V) → Told P bs o (Ok v)
     → (a : A) × (rest : List ℕ) × (o ≡ ok a rest) × P a rest v
@@ -33,7 +30,7 @@ pub told_stop : {A B V W : Type 0} (P : A → List ℕ → V → Type 0) (Q : B 
 told_stop P Q k bs (ok a rest) f h = absurd h
 told_stop P Q k bs (fault n at) f h = h
 
-told_stop_map : {A B V W : Type 0} (P : A → List ℕ → V → Type 0) (Q : B → List ℕ → W → Type 0) (g : A → B) (bs : List ℕ) (o : Out A) (f : WireFault)
+pub told_stop_map : {A B V W : Type 0} (P : A → List ℕ → V → Type 0) (Q : B → List ℕ → W → Type 0) (g : A → B) (bs : List ℕ) (o : Out A) (f : WireFault)
     → Told P bs o (Err f) → Told Q bs (map_out g o) (Err f)
 told_stop_map P Q g bs (ok a rest) f h = absurd h
 told_stop_map P Q g bs (fault n at) f h = h
@@ -83,22 +80,3 @@ told_lined bs j s l r q e h is = by is
     by (inr (inr (inl is))) = told_kind bs j kind.Boolean s l r q is e (lined_as kind.Boolean is)
     by (inr (inr (inr (inl is)))) = told_kind bs j kind.Double s l r q is e (lined_as kind.Double is)
     by (inr (inr (inr (inr is)))) = told_kind bs j kind.BigNumber s l r q is e (lined_as kind.BigNumber is)
-
--- the kinds whose line is a count
-pub count_fault : (k : Kind) (most : ℕ) (bs s l : List ℕ) (f : WireFault) → IsTrue (is_counted k) → most ≡ most_of k → Told (Sizes bs) bs (size most s l) (Err f)
-    → Told (Opens bs) bs (head k s l) (Err f)
-count_fault kind.Set m bs s l f c is h = told_stop_map (Sizes bs) (Opens bs) of_set bs (size items_most s l) f (subst (λ n. Told (Sizes bs) bs (size n s l) (Err f)) is h)
-count_fault kind.Push m bs s l f c is h = told_stop (Sizes bs) (Opens bs) (pushed s) bs (size items_most s l) f (subst (λ n. Told (Sizes bs) bs (size n s l) (Err f)) is h)
-count_fault kind.Map m bs s l f c is h = told_stop_map (Sizes bs) (Opens bs) of_map bs (size pairs_most s l) f (subst (λ n. Told (Sizes bs) bs (size n s l) (Err f)) is h)
-count_fault kind.Attribute m bs s l f c is h = told_stop_map (Sizes bs) (Opens bs) of_attribute bs (size pairs_most s l) f (subst (λ n. Told (Sizes bs) bs (size n s l) (Err f)) is h)
-count_fault kind.SimpleString m bs s l f c is h = absurd (false≢true c)
-count_fault kind.SimpleError m bs s l f c is h = absurd (false≢true c)
-count_fault kind.Integer m bs s l f c is h = absurd (false≢true c)
-count_fault kind.BulkString m bs s l f c is h = absurd (false≢true c)
-count_fault kind.Array m bs s l f c is h = absurd (false≢true c)
-count_fault kind.Null m bs s l f c is h = absurd (false≢true c)
-count_fault kind.Boolean m bs s l f c is h = absurd (false≢true c)
-count_fault kind.Double m bs s l f c is h = absurd (false≢true c)
-count_fault kind.BigNumber m bs s l f c is h = absurd (false≢true c)
-count_fault kind.BulkError m bs s l f c is h = absurd (false≢true c)
-count_fault kind.VerbatimString m bs s l f c is h = absurd (false≢true c)
