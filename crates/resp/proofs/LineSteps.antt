@@ -1,18 +1,27 @@
 -- The loop that looks for a line's end.
-use Rattle.std.proofs.Common.{◌≡◌, ℕ, zero, suc, ◌+◌, ◌-◌, ◌<◌, ◌≤◌, List, [], ◌∷◌, ◌++◌, length, get_or, take, drop, Ok, Err, sym, refl, ap, ◌∙◌, ap₂, append_assoc, arith}
-use Rattle.std.proofs.lemmas.List.{append-nil, drop_more, drop_all, take_more, get_or-drop, length-drop}
+use Rattle.std.proofs.Common.{◌≡◌, ℕ, zero, suc, ◌+◌, ◌-◌, ◌<◌, List, [], ◌∷◌, ◌++◌, length, get_or, take, drop, Ok, sym, refl, ap, ◌∙◌, ap₂, append_assoc, arith}
+use Rattle.std.proofs.lemmas.List.{append-nil, drop_more, take_more, take_rest, get_or-drop, length-drop}
+use Rattle.std.specs.Prelude.{slice_range}
 use Rattle.std.proofs.lemmas.Bool.{ne_eqb}
-use Rattle.resp.specs.declared.fault.WireReason.{WireReason}
-use Rattle.resp.specs.declared.fault.WireReason.TheVariants.{NotWhole, BrokenLine, LongLine}
-use Rattle.resp.specs.declared.fault.WireFault.{WireFault}
+use Rattle.resp.specs.declared.closed.Closed.{Closed}
 use Rattle.resp.specs.Out.{Out, ok, fault, map_out}
 use Rattle.resp.specs.Reading.{line, closing}
-use Rattle.resp.specs.Told.{Told, Faulty, Lines}
+use Rattle.resp.specs.Told.{Told, Lines}
 
 -- what the n bytes after the item's first leave of its line
 abbrev pub Left : List ℕ → ℕ → ℕ → Type 0
 Left bs at n =
     line (drop at bs) 1024 (drop (at + 1) bs) ≡ map_out (λ c. take n (drop (at + 1) bs) ++ c) (line (drop at bs) (1024 - n) (drop (at + 1 + n) bs))
+
+-- the bytes from a place on, as the loop goes over them
+pub byte_at : (bs : List ℕ) (from n : ℕ) → get_or (slice_range bs from (length bs)) n 0 ≡ get_or bs (from + n) 0
+byte_at bs from n = ap (λ l. get_or l n 0) (take_rest bs from) ∙ get_or-drop from bs n 0
+
+pub first_at : (bs : List ℕ) (from : ℕ) → get_or (slice_range bs from (length bs)) 0 0 ≡ get_or bs from 0
+first_at bs from = byte_at bs from 0 ∙ ap (λ k. get_or bs k 0) (let z : from + 0 ≡ from = omega arith in z)
+
+pub rest_length : (bs : List ℕ) (from : ℕ) → length (slice_range bs from (length bs)) ≡ length bs - from
+rest_length bs from = ap length (take_rest bs from) ∙ length-drop from bs
 
 map_out_id : {A : Type 0} (o : Out A) → map_out (λ a. a) o ≡ o
 map_out_id (ok a rest) = refl
@@ -21,13 +30,6 @@ map_out_id (fault k at) = refl
 line_cr : (s : List ℕ) (room b : ℕ) (bs : List ℕ) → b ≡ 13 → line s room (b ∷ bs) ≡ closing s bs
 line_cr s zero b bs e = rw e
 line_cr s (suc n) b bs e = rw e
-
-line_lf : (s : List ℕ) (room b : ℕ) (bs : List ℕ) → b ≡ 10 → line s room (b ∷ bs) ≡ fault BrokenLine s
-line_lf s zero b bs e = rw e
-line_lf s (suc n) b bs e = rw e
-
-line_long : (s : List ℕ) (b : ℕ) (bs : List ℕ) → (b ≡ 13 → ⊥) → (b ≡ 10 → ⊥) → line s 0 (b ∷ bs) ≡ fault LongLine s
-line_long s b bs p q = rw (ne_eqb b 13 p, ne_eqb b 10 q)
 
 line_on : (s : List ℕ) (room b : ℕ) (bs : List ℕ) → (b ≡ 13 → ⊥) → (b ≡ 10 → ⊥) → line s (suc room) (b ∷ bs) ≡ map_out (λ c. b ∷ c) (line s room bs)
 line_on s room b bs p q = rw (ne_eqb b 13 p, ne_eqb b 10 q)
@@ -55,55 +57,24 @@ left_more bs at n e room lt p q =
     e ∙ ap (map_out (λ c. take n l ++ c)) step ∙ push_on (take n l) b next ∙ ap (λ w. map_out (λ c. w ++ c) next) (sym front)
 
 module _ (bs : List ℕ) (at n : ℕ) (e : Left bs at n) where
-  at_fault : (k : WireReason) (x : List ℕ) (f : WireFault) → line (drop at bs) (1024 - n) (drop (at + 1 + n) bs) ≡ fault k x → Faulty bs k x f
-      → Told (Lines bs (at + 1)) bs (line (drop at bs) 1024 (drop (at + 1) bs)) (Err f)
-  at_fault k x f h y =
-      let w : line (drop at bs) 1024 (drop (at + 1) bs) ≡ fault k x = e ∙ ap (map_out (λ c. take n (drop (at + 1) bs) ++ c)) h in rw w y
-
-  pub told_lf : at + 1 + n < length bs → get_or bs (at + 1 + n) 0 ≡ 10
-      → Told (Lines bs (at + 1)) bs (line (drop at bs) 1024 (drop (at + 1) bs)) (Err (record { reason = BrokenLine; place = at }))
-  told_lf lt b = at_fault BrokenLine (drop at bs) _ (rw (drop_more bs (at + 1 + n) 0 lt) (line_lf (drop at bs) (1024 - n) _ (drop (at + 1 + n + 1) bs) b)) (refl, omega arith, refl)
-
-  pub told_long : at + 1 + n < length bs → n ≡ 1024 → (get_or bs (at + 1 + n) 0 ≡ 13 → ⊥) → (get_or bs (at + 1 + n) 0 ≡ 10 → ⊥)
-      → Told (Lines bs (at + 1)) bs (line (drop at bs) 1024 (drop (at + 1) bs)) (Err (record { reason = LongLine; place = at }))
-  told_long lt is p q =
-      let z : 1024 - n ≡ 0 = omega arith in
-      at_fault LongLine (drop at bs) _ (rw (z, drop_more bs (at + 1 + n) 0 lt) (line_long (drop at bs) _ (drop (at + 1 + n + 1) bs) p q)) (refl, omega arith, refl)
-
-  pub told_end : length bs ≤ at + 1 + n → Told (Lines bs (at + 1)) bs (line (drop at bs) 1024 (drop (at + 1) bs)) (Err (record { reason = NotWhole; place = length bs }))
-  told_end le = at_fault NotWhole [] _ (rw (drop_all (at + 1 + n) bs le)) (refl, omega arith, sym (drop_all (length bs) bs (omega arith)))
-
   -- a CR, and what follows it
   after_cr : at + 1 + n < length bs → get_or bs (at + 1 + n) 0 ≡ 13 → line (drop at bs) (1024 - n) (drop (at + 1 + n) bs) ≡ closing (drop at bs) (drop (at + 1 + n + 1) bs)
   after_cr lt b = ap (line (drop at bs) (1024 - n)) (drop_more bs (at + 1 + n) 0 lt) ∙ line_cr (drop at bs) (1024 - n) (get_or bs (at + 1 + n) 0) (drop (at + 1 + n + 1) bs) b
 
-  pub told_cr_last : at + 1 + n < length bs → at + 1 + n + 1 ≡ length bs → get_or bs (at + 1 + n) 0 ≡ 13
-      → Told (Lines bs (at + 1)) bs (line (drop at bs) 1024 (drop (at + 1) bs)) (Err (record { reason = NotWhole; place = length bs }))
-  told_cr_last lt last b =
-      at_fault NotWhole [] _ (after_cr lt b ∙ ap (closing (drop at bs)) (drop_all (at + 1 + n + 1) bs (omega arith))) (refl, omega arith, sym (drop_all (length bs) bs (omega arith)))
-
-  pub told_cr_other : at + 1 + n + 1 < length bs → get_or bs (at + 1 + n) 0 ≡ 13 → (get_or bs (at + 1 + n + 1) 0 ≡ 10 → ⊥)
-      → Told (Lines bs (at + 1)) bs (line (drop at bs) 1024 (drop (at + 1) bs)) (Err (record { reason = BrokenLine; place = at }))
-  told_cr_other lt b no10 =
-      let k = drop_more bs (at + 1 + n + 1) 0 lt in
-      let c : closing (drop at bs) (get_or bs (at + 1 + n + 1) 0 ∷ drop (at + 1 + n + 1 + 1) bs) ≡ fault BrokenLine (drop at bs) = rw (ne_eqb _ _ no10) in
-      at_fault BrokenLine (drop at bs) _ (after_cr (omega arith) b ∙ ap (closing (drop at bs)) k ∙ c) (refl, omega arith, refl)
-
-  pub told_cr_lf : at + 1 + n + 1 < length bs → get_or bs (at + 1 + n) 0 ≡ 13 → get_or bs (at + 1 + n + 1) 0 ≡ 10
-      → Told (Lines bs (at + 1)) bs (line (drop at bs) 1024 (drop (at + 1) bs)) (Ok (at + 1 + n))
-  told_cr_lf lt b lf =
+  pub told_cr_lf : (v : Closed) → v.bytes.now ≡ bs → v.from ≡ at + 1 → v.end ≡ at + 1 + n → at + 1 + n + 1 < length bs → get_or bs (at + 1 + n) 0 ≡ 13 → get_or bs (at + 1 + n + 1) 0 ≡ 10
+      → Told (Lines bs (at + 1)) bs (line (drop at bs) 1024 (drop (at + 1) bs)) (Ok v)
+  told_cr_lf v bytes from end lt b lf =
       let l = drop (at + 1) bs in
       let k = drop_more bs (at + 1 + n + 1) 0 lt in
       let c : closing (drop at bs) (get_or bs (at + 1 + n + 1) 0 ∷ drop (at + 1 + n + 1 + 1) bs) ≡ ok [] (drop (at + 1 + n + 1 + 1) bs) = rw lf in
       let o = after_cr (omega arith) b ∙ ap (closing (drop at bs)) k ∙ c in
       let w : line (drop at bs) 1024 l ≡ ok (take n l ++ []) (drop (at + 1 + n + 1 + 1) bs) = e ∙ ap (map_out (λ c. take n l ++ c)) o in
-      let two : at + 1 + n + 1 + 1 ≡ at + 1 + n + 2 = omega arith in
-      let sub : at + 1 + n - (at + 1) ≡ n = omega arith in
+      let two : at + 1 + n + 1 + 1 ≡ v.end + 2 = omega arith in
+      let sub : v.end - v.from ≡ n = omega arith in
       rw w
       (record {
-        from = omega arith;
-        inside = omega arith;
-        content = append-nil (take n l) ∙ ap (λ k. take k l) (sym sub);
-        after = ap (λ k. drop k bs) two;
-        closed = drop_more bs (at + 1 + n) 0 (omega arith) ∙ ap₂ ◌∷◌ b (k ∙ ap (λ z. z ∷ drop (at + 1 + n + 1 + 1) bs) lf);
+        bytes = bytes;
+        from = from;
+        content = append-nil (take n l) ∙ ap₂ take (sym sub) (ap₂ drop (sym from) (sym bytes));
+        after = ap₂ drop two (sym bytes);
       })

@@ -1,19 +1,18 @@
 -- What the answers of the parts say.
-use Rattle.std.proofs.Common.{◌≡◌, ℕ, ◌+◌, ◌-◌, ◌<◌, ◌≤◌, Bool, true, false, cond, ◌&&◌, eqb, ltb, ◌⊎◌, List, ◌∷◌, ◌++◌, length, get_or, take, drop, is_some, Some, None, Ok, Err, Option, Result, sym, refl, ap, ◌∙◌, subst, inl, inr, arith}
-use Rattle.std.proofs.lemmas.List.{drop_all, drop-drop, drop_more, get_or-drop, length-drop, length-take-le, drop-append-le, take-append-drop}
-use Rattle.std.proofs.lemmas.Bool.{false≢true, lt-ltb, le-ltb, ltb-true, ltb-false, and_parts, and_from, eqb-true, eq-eqb}
+use Rattle.std.proofs.Common.{◌≡◌, ℕ, ◌+◌, ◌-◌, ◌<◌, ◌⊎◌, List, ◌∷◌, ◌++◌, length, take, drop, Some, None, Ok, Err, Option, Result, sym, refl, ap, ◌∙◌, subst, inl, inr, arith}
+use Rattle.std.proofs.lemmas.List.{drop-drop, length-drop, length-take-le, drop-append-le, take-append-drop}
 use Rattle.utf8.specs.Scan.{ill_formed, Located}
 use Rattle.resp.specs.declared.fault.WireReason.{WireReason}
-use Rattle.resp.specs.declared.fault.WireReason.TheVariants.{NotWhole, Content, NotClosed, NotUtf8}
+use Rattle.resp.specs.declared.fault.WireReason.TheVariants.{NotUtf8}
 use Rattle.resp.specs.declared.fault.WireFault.{WireFault}
 use Rattle.resp.specs.declared.kind.Kind.{Kind}
 use Rattle.resp.specs.declared.kind.Kind.TheVariants as kind
+use Rattle.resp.specs.declared.closed.Closed.{Closed}
 use Rattle.resp.specs.declared.opening.Opening.{Opening}
-use Rattle.resp.specs.Limits.{line_most}
 use Rattle.resp.specs.Reply.{Leaf}
 use Rattle.resp.specs.Out.{Out, ok, fault, and_then, map_out}
-use Rattle.resp.specs.Reading.{line, or_content, lined, judged, is_minus_one, size_or_null, body, or_ill, text, leaf_of, a_leaf, head}
-use Rattle.resp.specs.Told.{Told, Faulty, Ends, Lines, Judged, Nullables, Opens, leaf_opening, body_end}
+use Rattle.resp.specs.Reading.{lined, or_ill, text, leaf_of, a_leaf, head}
+use Rattle.resp.specs.Told.{held, left_after, Told, Faulty, Ends, Opens, leaf_opening}
 
 pub told_ok : {A V : Type 0} (P : A → List ℕ → V → Type 0) (bs : List ℕ) (o : Out A) (v : V) → Told P bs o (Ok v)
     → (a : A) × (rest : List ℕ) × (o ≡ ok a rest) × P a rest v
@@ -31,142 +30,30 @@ pub told_stop : {A B V W : Type 0} (P : A → List ℕ → V → Type 0) (Q : B 
 told_stop P Q k bs (ok a rest) f h = absurd h
 told_stop P Q k bs (fault n at) f h = h
 
-pub told_map : {A B : Type 0} (g : A → B) (bs : List ℕ) (o : Out A) (r : Result ℕ WireFault) → Told (Ends bs) bs o r → Told (Ends bs) bs (map_out g o) r
-told_map g bs (ok a rest) (Ok e) h = h
-told_map g bs (ok a rest) (Err f) h = h
-told_map g bs (fault k at) (Ok e) h = h
-told_map g bs (fault k at) (Err f) h = h
-
-not_so : (b : Bool) → (b ≡ true → ⊥) → b ≡ false
-not_so true h = absurd (h refl)
-not_so false h = refl
-
--- a line's end lies inside the bytes
-pub line_inside : (bs : List ℕ) (at e : ℕ) → Told (Lines bs (at + 1)) bs (line (drop at bs) line_most (drop (at + 1) bs)) (Ok e) → (at + 1 ≤ e) × (e + 2 ≤ length bs)
-line_inside bs at e t = let (c, rest, o, l) = told_ok (Lines bs (at + 1)) bs (line (drop at bs) line_most (drop (at + 1) bs)) e t in (l.from, l.inside)
-
--- bodies
-module _ (bs : List ℕ) (at n : ℕ) (le : at ≤ length bs) where
-  pub body_short : length bs - at < n + 2 → Told (Lines bs at) bs (body n (drop at bs)) (Err (record { reason = NotWhole; place = length bs }))
-  body_short h =
-      let t : ltb (length (drop at bs)) (n + 2) ≡ true = lt-ltb _ _ (rw length-drop h) in
-      rw t (refl, omega arith, sym (drop_all (length bs) bs (omega arith)))
-
-  body_long : n + 2 ≤ length bs - at → ltb (length (drop at bs)) (n + 2) ≡ false
-  body_long h = le-ltb _ _ (rw length-drop h)
-
-  next_at : at + (n + 1) ≡ at + n + 1
-  next_at = omega arith
-
-  pub body_closed : n + 2 ≤ length bs - at → get_or bs (at + n) 0 ≡ 13 → get_or bs (at + n + 1) 0 ≡ 10 → Told (Lines bs at) bs (body n (drop at bs)) (Ok (at + n))
-  body_closed h a b =
-      let t = body_long h in
-      let x : get_or (drop at bs) n 0 ≡ 13 = get_or-drop at bs n 0 ∙ a in
-      let y : get_or (drop at bs) (n + 1) 0 ≡ 10 = get_or-drop at bs (n + 1) 0 ∙ ap (λ k. get_or bs k 0) next_at ∙ b in
-      let z : at + (n + 2) ≡ at + n + 2 = omega arith in
-      let two : at + n + 1 + 1 ≡ at + n + 2 = omega arith in
-      let sub : at + n - at ≡ n = omega arith in
-      let rest : drop (n + 2) (drop at bs) ≡ drop (at + n + 2) bs = drop-drop (n + 2) at bs ∙ ap (λ k. drop k bs) z in
-      let one = drop_more bs (at + n) 0 (omega arith) in
-      let next = drop_more bs (at + n + 1) 0 (omega arith) in
-      rw (t, x, y)
-      (record {
-        from = omega arith;
-        inside = omega arith;
-        content = ap (λ k. take k (drop at bs)) (sym sub);
-        after = rest;
-        closed = cc (one, next, a, b, two, rest);
-      })
-
-  pub body_open : n + 2 ≤ length bs - at → (get_or bs (at + n) 0 ≡ 13 → get_or bs (at + n + 1) 0 ≡ 10 → ⊥)
-      → Told (Lines bs at) bs (body n (drop at bs)) (Err (record { reason = NotClosed; place = at + n }))
-  body_open h bad =
-      let u : (eqb (get_or (drop at bs) n 0) 13 && eqb (get_or (drop at bs) (n + 1) 0) 10) ≡ false =
-      not_so _ (λ w.
-      let p = and_parts (eqb (get_or (drop at bs) n 0) 13) _ w in
-      bad (sym (get_or-drop at bs n 0) ∙ eqb-true _ _ p.0) (sym (get_or-drop at bs (n + 1) 0 ∙ ap (λ k. get_or bs k 0) next_at) ∙ eqb-true _ _ p.1)) in
-      rw (body_long h, u) (refl, omega arith, drop-drop n at bs)
-
-pub body_told : (bs : List ℕ) (at n : ℕ) → at ≤ length bs → Told (Lines bs at) bs (body n (drop at bs)) (body_end bs at n)
-body_told bs at n le = by (ltb (length bs - at) (n + 2)) refl
-  where
-    closes : List ℕ → Bool
-    closes l = eqb (get_or l (at + n) 0) 13 && eqb (get_or l (at + n + 1) 0) 10
-
-    inner : (t : Bool) → closes bs ≡ t → n + 2 ≤ length bs - at → Told (Lines bs at) bs (body n (drop at bs)) (cond t (Ok (at + n)) (Err (record { reason = NotClosed; place = at + n })))
-    inner true e long = let p = and_parts (eqb (get_or bs (at + n) 0) 13) _ e in body_closed bs at n le long (eqb-true _ _ p.0) (eqb-true _ _ p.1)
-    inner false e long = body_open bs at n le long (λ a b. false≢true (sym e ∙ and_from _ _ (eq-eqb _ _ a) (eq-eqb _ _ b)))
-
-    by : (t : Bool) → ltb (length bs - at) (n + 2) ≡ t
-        → Told (Lines bs at) bs (body n (drop at bs)) (cond t (Err (record { reason = NotWhole; place = length bs })) (cond (closes bs) (Ok (at + n)) (Err (record { reason = NotClosed; place = at + n }))))
-    by true e = body_short bs at n le (ltb-true _ _ e)
-    by false e = inner (closes bs) refl (ltb-false _ _ e)
+pub told_stop_map : {A B V W : Type 0} (P : A → List ℕ → V → Type 0) (Q : B → List ℕ → W → Type 0) (g : A → B) (bs : List ℕ) (o : Out A) (f : WireFault)
+    → Told P bs o (Err f) → Told Q bs (map_out g o) (Err f)
+told_stop_map P Q g bs (ok a rest) f h = absurd h
+told_stop_map P Q g bs (fault n at) f h = h
 
 -- texts
-module _ (bs : List ℕ) (from end : ℕ) (le : from ≤ end) (inside : end + 2 ≤ length bs) (closed : drop end bs ≡ 13 ∷ 10 ∷ drop (end + 2) bs) where
-  pub text_ill : (i : ℕ) → Located (take (end - from) (drop from bs)) (ill_formed (take (end - from) (drop from bs))) (Some i)
-      → Told (Ends bs) bs (text (take (end - from) (drop from bs)) (drop (end + 2) bs)) (Err (record { reason = NotUtf8; place = from + i }))
-  text_ill i h = go (ill_formed (take (end - from) (drop from bs))) h
+module _ (v : Closed) where
+  pub text_ill : (i : ℕ) → Located (held v) (ill_formed (held v)) (Some i)
+      → Told (Ends v.bytes.now) v.bytes.now (text (held v) (left_after v)) (Err (record { reason = NotUtf8; place = v.from + i }))
+  text_ill i h = go (ill_formed (held v)) h
     where
-      place : i < length (take (end - from) (drop from bs)) → drop i (take (end - from) (drop from bs)) ++ (13 ∷ 10 ∷ drop (end + 2) bs) ≡ drop (from + i) bs
+      place : i < length (held v) → drop i (held v) ++ (13 ∷ 10 ∷ left_after v) ≡ drop (v.from + i) v.bytes.now
       place lt =
-          let m = end - from in
-          let l = drop from bs in
-          let back : drop m l ≡ drop end bs = drop-drop m from bs ∙ ap (λ k. drop k bs) (let z : from + (end - from) ≡ end = omega arith in z) in
-          ap (λ z. drop i (take m l) ++ z) (sym (back ∙ closed)) ∙ sym (drop-append-le i (take m l) (drop m l) (omega arith)) ∙ ap (drop i) (take-append-drop m l) ∙ drop-drop i from bs
+          let bs = v.bytes.now in
+          let m = v.end - v.from in
+          let l = drop v.from bs in
+          let back : drop m l ≡ drop v.end bs = drop-drop m v.from bs ∙ ap (λ k. drop k bs) (let z : v.from + (v.end - v.from) ≡ v.end = omega (arith, v.ordered) in z) in
+          ap (λ z. drop i (take m l) ++ z) (sym (back ∙ v.closed)) ∙ sym (drop-append-le i (take m l) (drop m l) (omega arith)) ∙ ap (drop i) (take-append-drop m l) ∙ drop-drop i v.from bs
 
-      go : (o : Option (List ℕ)) → Located (take (end - from) (drop from bs)) o (Some i)
-          → Told (Ends bs) bs (or_ill o (take (end - from) (drop from bs)) (drop (end + 2) bs)) (Err (record { reason = NotUtf8; place = from + i }))
+      go : (o : Option (List ℕ)) → Located (held v) o (Some i) → Told (Ends v.bytes.now) v.bytes.now (or_ill o (held v) (left_after v)) (Err (record { reason = NotUtf8; place = v.from + i }))
       go None h = absurd h
       go (Some t) h =
-          let len : length (take (end - from) (drop from bs)) ≡ end - from = length-take-le (end - from) (drop from bs) (rw length-drop (omega arith)) in
-          (refl, omega (arith, h.0), ap (λ z. z ++ (13 ∷ 10 ∷ drop (end + 2) bs)) h.1 ∙ place h.0)
-
--- a length or a count, or -1
-module _ (most : ℕ) (bs : List ℕ) (at e : ℕ) (t : Told (Lines bs (at + 1)) bs (line (drop at bs) line_most (drop (at + 1) bs)) (Ok e)) where
-  pub null_told : is_minus_one (take (e - (at + 1)) (drop (at + 1) bs)) ≡ true
-      → Told (Nullables bs) bs (size_or_null most (drop at bs) (drop (at + 1) bs)) (Ok (record { count = None; start = e + 2 }))
-  null_told m =
-      let (c, rest, o, l) = told_ok (Lines bs (at + 1)) bs (line (drop at bs) line_most (drop (at + 1) bs)) e t in
-      let is : is_minus_one c ≡ true = ap is_minus_one l.content ∙ m in
-      rw (o, is) (refl, l.inside, l.after)
-
-  pub null_size : is_minus_one (take (e - (at + 1)) (drop (at + 1) bs)) ≡ false → (n : ℕ) → Judged most (take (e - (at + 1)) (drop (at + 1) bs)) (Ok n)
-      → Told (Nullables bs) bs (size_or_null most (drop at bs) (drop (at + 1) bs)) (Ok (record { count = Some n; start = e + 2 }))
-  null_size m n j =
-      let (c, rest, o, l) = told_ok (Lines bs (at + 1)) bs (line (drop at bs) line_most (drop (at + 1) bs)) e t in
-      let is : is_minus_one c ≡ false = ap is_minus_one l.content ∙ m in
-      let k : judged most (drop at bs) c rest ≡ ok n rest = ap (λ z. judged most (drop at bs) z rest) l.content ∙ j (drop at bs) rest in
-      rw (o, is, k) (refl, l.inside, l.after)
-
-  pub null_fault : is_minus_one (take (e - (at + 1)) (drop (at + 1) bs)) ≡ false → at ≤ length bs → (k : WireReason) → Judged most (take (e - (at + 1)) (drop (at + 1) bs)) (Err k)
-      → Told (Nullables bs) bs (size_or_null most (drop at bs) (drop (at + 1) bs)) (Err (record { reason = k; place = at }))
-  null_fault m le k j =
-      let (c, rest, o, l) = told_ok (Lines bs (at + 1)) bs (line (drop at bs) line_most (drop (at + 1) bs)) e t in
-      let is : is_minus_one c ≡ false = ap is_minus_one l.content ∙ m in
-      let f : judged most (drop at bs) c rest ≡ fault k (drop at bs) = ap (λ z. judged most (drop at bs) z rest) l.content ∙ j (drop at bs) rest in
-      rw (o, is, f) (refl, le, refl)
-
--- a line's content, as its kind takes it
-module _ {A : Type 0} (judge : List ℕ → Option A) (bs : List ℕ) (at e : ℕ) (t : Told (Lines bs (at + 1)) bs (line (drop at bs) line_most (drop (at + 1) bs)) (Ok e)) where
-  pub line_fits : is_some (judge (take (e - (at + 1)) (drop (at + 1) bs))) ≡ true → Told (Ends bs) bs (lined judge (drop at bs) (drop (at + 1) bs)) (Ok (e + 2))
-  line_fits h =
-      let (c, rest, o, l) = told_ok (Lines bs (at + 1)) bs (line (drop at bs) line_most (drop (at + 1) bs)) e t in
-      rw o (go (judge c) rest (ap (λ z. is_some (judge z)) l.content ∙ h) (l.inside, l.after))
-    where
-      go : (o : Option A) (rest : List ℕ) → is_some o ≡ true → (e + 2 ≤ length bs) × (rest ≡ drop (e + 2) bs) → Told (Ends bs) bs (or_content (drop at bs) o rest) (Ok (e + 2))
-      go (Some a) rest h w = w
-      go None rest h w = absurd (false≢true h)
-
-  pub line_misfits : at ≤ length bs → is_some (judge (take (e - (at + 1)) (drop (at + 1) bs))) ≡ false
-      → Told (Ends bs) bs (lined judge (drop at bs) (drop (at + 1) bs)) (Err (record { reason = Content; place = at }))
-  line_misfits le h =
-      let (c, rest, o, l) = told_ok (Lines bs (at + 1)) bs (line (drop at bs) line_most (drop (at + 1) bs)) e t in
-      rw o (go (judge c) rest (ap (λ z. is_some (judge z)) l.content ∙ h))
-    where
-      go : (o : Option A) (rest : List ℕ) → is_some o ≡ false → Told (Ends bs) bs (or_content (drop at bs) o rest) (Err (record { reason = Content; place = at }))
-      go (Some a) rest h = absurd (false≢true (sym h))
-      go None rest h = (refl, le, refl)
+          let len : length (held v) ≡ v.end - v.from = length-take-le (v.end - v.from) (drop v.from v.bytes.now) (rw length-drop (omega (arith, v.inside))) in
+          (refl, omega (arith, h.0, v.inside, v.ordered), ap (λ z. z ++ (13 ∷ 10 ∷ left_after v)) h.1 ∙ place h.0)
 
 -- a leaf, as an opening
 pub told_leaf : {A : Type 0} (g : A → Leaf) (bs : List ℕ) (o : Out A) (r : Result ℕ WireFault) → Told (Ends bs) bs o r → Told (Opens bs) bs (map_out (λ a. a_leaf (g a)) o) (leaf_opening r)

@@ -1,11 +1,15 @@
 -- What a function of the code answers, beside what a reader says of the same bytes.
-use Rattle.std.specs.Prelude.{◌≡◌, ℕ, zero, suc, ◌+◌, ◌-◌, ◌*◌, ◌≤◌, Bool, true, false, cond, not, ◌&&◌, ◌||◌, List, [], ◌∷◌, length, drop, Ok, Err, Option, Result, ◌==◌, nat_le, nat_lt, slice_index, slice_range}
+use Rattle.std.specs.Prelude.{◌≡◌, ℕ, zero, suc, ◌+◌, ◌-◌, ◌*◌, ◌≤◌, Bool, true, false, cond, not, ◌&&◌, ◌||◌, List, [], ◌∷◌, length, drop, Ok, Err, Result, ◌==◌, nat_le, nat_lt, slice_index, slice_range}
 use Rattle.resp.specs.declared.fault.WireReason.{WireReason}
 use Rattle.resp.specs.declared.fault.WireReason.TheVariants.{NotWhole, Content, Limit, NotClosed}
 use Rattle.resp.specs.declared.fault.WireFault.{WireFault}
 use Rattle.resp.specs.declared.opening.Opening.{Opening}
 use Rattle.resp.specs.declared.opening.Size.{Size}
-use Rattle.resp.specs.declared.opening.Nullable.{Nullable}
+use Rattle.resp.specs.declared.item.Item.{Item}
+use Rattle.resp.specs.declared.closed.Closed.{Closed}
+use Rattle.resp.specs.declared.kind.Kind.{Kind}
+use Rattle.resp.specs.declared.kind.Kind.TheVariants as kind
+use Rattle.resp.specs.Limits.{items_most, pairs_most}
 use Rattle.resp.specs.Out.{Out, ok, fault}
 use Rattle.resp.specs.Reading.{judged, kind_of, begun, opening, Head, a_leaf, of_array, of_set, of_push, of_map, of_attribute}
 
@@ -20,32 +24,36 @@ Told P bs (ok a rest) (Err f) = ⊥
 Told P bs (fault k at) (Ok v) = ⊥
 Told P bs (fault k at) (Err f) = Faulty bs k at f
 
+-- the answer about an item is just what the reader says of it, which is given the item from its first byte on and the bytes after that byte
+abbrev pub Tells : {A V : Type 0} → (List ℕ → A → List ℕ → V → Type 0) → (List ℕ → List ℕ → Out A) → Item → Result V WireFault → Type 0
+Tells P f i r = Told (P i.bytes.now) i.bytes.now (f (drop i.at i.bytes.now) (drop (i.at + 1) i.bytes.now)) r
+
 -- what was read ends where `rest` is left of bs
 abbrev pub Ends : {A : Type 0} → List ℕ → A → List ℕ → ℕ → Type 0
 Ends bs a rest e = (e ≤ length bs) × (rest ≡ drop e bs)
 
--- the bytes c, from `at` on, end with the CR LF at e
-pub record Lines (bs : List ℕ) (at : ℕ) (c rest : List ℕ) (e : ℕ) : Type 0 where
-  pub from : at ≤ e
-  pub inside : e + 2 ≤ length bs
-  pub content : c ≡ slice_range bs at e
-  pub after : rest ≡ drop (e + 2) bs
-  pub closed : drop e bs ≡ 13 ∷ 10 ∷ rest
+-- what a content holds, and the bytes after its CR LF
+abbrev pub held : Closed → List ℕ
+held v = slice_range v.bytes.now v.from v.end
+
+abbrev pub left_after : Closed → List ℕ
+left_after v = drop (v.end + 2) v.bytes.now
+
+-- of the bytes bs from `at` on, c was read and `rest` is left: they are what the content v holds, and what follows it
+pub record Lines (bs : List ℕ) (at : ℕ) (c rest : List ℕ) (v : Closed) : Type 0 where
+  pub bytes : v.bytes.now ≡ bs
+  pub from : v.from ≡ at
+  pub content : c ≡ held v
+  pub after : rest ≡ left_after v
 
 -- a length or a count, and where the bytes after its line start
-abbrev pub Sizes : List ℕ → ℕ → List ℕ → Size → Type 0
+abbrev pub Sizes : {N : Type 0} → List ℕ → N → List ℕ → Size N → Type 0
 Sizes bs n rest v = (v.count ≡ n) × (v.start ≤ length bs) × (rest ≡ drop v.start bs)
 
-abbrev pub Nullables : List ℕ → Option ℕ → List ℕ → Nullable → Type 0
-Nullables bs n rest v = (v.count ≡ n) × (v.start ≤ length bs) × (rest ≡ drop v.start bs)
-
--- what is said of the content of a length's or a count's line
-abbrev pub judgement : Result ℕ WireReason → List ℕ → List ℕ → Out ℕ
-judgement (Ok n) s rest = ok n rest
-judgement (Err k) s rest = fault k s
-
-abbrev pub Judged : ℕ → List ℕ → Result ℕ WireReason → Type 0
-Judged most c r = (s rest : List ℕ) → judged most s c rest ≡ judgement r s rest
+-- what is said of the content c of the line of a length or a count, which the item at a place tells
+abbrev pub Judged : ℕ → ℕ → List ℕ → Result ℕ WireFault → Type 0
+Judged most at c (Ok n) = (s rest : List ℕ) → judged most s c rest ≡ ok n rest
+Judged most at c (Err f) = (f.place ≡ at) × ((s rest : List ℕ) → judged most s c rest ≡ fault f.reason s)
 
 -- how many replies stand right below a head
 abbrev pub items_in : Head → ℕ
@@ -64,6 +72,28 @@ is_push (of_set n) = false
 is_push (of_push n) = true
 is_push (of_map n) = false
 is_push (of_attribute n) = false
+
+-- the kinds whose line is a count that -1 can't stand for
+abbrev pub is_counted : Kind → Bool
+is_counted kind.Set = true
+is_counted kind.Push = true
+is_counted kind.Map = true
+is_counted kind.Attribute = true
+is_counted _ = false
+
+-- the most that a collection counts: pairs of a map or an attribute, items of any other
+abbrev pub most_of : Kind → ℕ
+most_of kind.Map = pairs_most
+most_of kind.Attribute = pairs_most
+most_of _ = items_most
+
+-- the head of a collection that counts so many
+abbrev pub counting : Kind → ℕ → Head
+counting kind.Set n = of_set n
+counting kind.Push n = of_push n
+counting kind.Map n = of_map n
+counting kind.Attribute n = of_attribute n
+counting _ n = of_array n
 
 -- what the code keeps of a head, and where its parts start
 abbrev pub Opens : List ℕ → Head → List ℕ → Opening → Type 0

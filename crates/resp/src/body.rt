@@ -1,50 +1,60 @@
-ghost use Rattle.std.specs.Prelude.{◌≡◌, ◌+◌, ◌-◌, ◌^◌, ◌<◌, ◌≤◌, ◌∷◌, length, take, drop};
+ghost use Rattle.std.specs.Prelude.{◌≡◌, ◌+◌, ◌-◌, ◌^◌, ◌<◌, ◌≤◌, length, drop};
 ghost use Rattle.resp.specs.Reading.{body, text};
-ghost use Rattle.resp.specs.Told.{Ends, Lines, Told, body_end};
+ghost use Rattle.resp.specs.Told.{Ends, Lines, Told, body_end, held, left_after};
 
+use crate::closed::Closed;
 use crate::fault::{WireFault, WireReason};
 use utf8::ill_formed;
 
 /// Where the body of `n` bytes at `from` ends, once all of it is there: the place of its CR LF.
-fn close_body(bytes: &[u8], from: usize, n: usize) -> Result<usize, WireFault>
+fn body_end(bytes: &[u8], from: usize, n: usize) -> Result<usize, WireFault>
     requires { (from ≤ length bytes.now) × (n < 2 ^ 32) }
     ensures { result ≡ body_end bytes.now from n }
 {
     if bytes.len() - from < n + 2 {
-        return Err(WireFault {
-            reason: WireReason::NotWhole,
-            place: bytes.len(),
-        });
+        return Err(WireReason::NotWhole.at(bytes.len()));
     }
     let end = from + n;
+    // kept: by `starts_with` a walk over short bulk strings takes 4% more steps
     if bytes[end] == b'\r' && bytes[end + 1] == b'\n' {
         Ok(end)
     } else {
-        Err(WireFault {
-            reason: WireReason::NotClosed,
-            place: end,
-        })
+        Err(WireReason::NotClosed.at(end))
     }
 }
 
-/// The same, as the reading of a body tells it.
-pub(crate) fn body_end(bytes: &[u8], from: usize, n: usize) -> Result<usize, WireFault>
+/// The body of `n` bytes at `from`.
+pub(crate) fn body(bytes: &[u8], from: usize, n: usize) -> Result<Closed<'_>, WireFault>
     requires { (from ≤ length bytes.now) × (n < 2 ^ 32) }
     ensures { Told (Lines bytes.now from) bytes.now (body n (drop from bytes.now)) result }
 {
-    close_body(bytes, from, n)
+    let end = body_end(bytes, from, n)?;
+    Ok(Closed { bytes, from, end })
 }
 
-/// Where the text from `from` to the CR LF at `end` ends, past that CR LF, if it is UTF-8.
-pub(crate) fn text_end(bytes: &[u8], from: usize, end: usize) -> Result<usize, WireFault>
-    requires { (from ≤ end) × ((end + 2 ≤ length bytes.now) × (drop end bytes.now ≡ 13 ∷ 10 ∷ drop (end + 2) bytes.now)) }
-    ensures { Told (Ends bytes.now) bytes.now (text (take (end - from) (drop from bytes.now)) (drop (end + 2) bytes.now)) result }
-{
-    match ill_formed(&bytes[from..end]) {
-        None => Ok(end + 2),
-        Some(i) => Err(WireFault {
-            reason: WireReason::NotUtf8,
-            place: from + i,
-        }),
+impl<'a> Closed<'a> {
+    /// The content itself, without its CR LF.
+    pub(crate) fn held(self) -> &'a [u8]
+        ensures { result.now ≡ held self.entry }
+    {
+        &self.bytes[self.from..self.end]
+    }
+
+    /// The place after the CR LF.
+    pub(crate) fn after(self) -> usize
+        ensures { result ≡ self.entry.end + 2 }
+    {
+        self.end + 2
+    }
+
+    /// The same, if the content is UTF-8.
+    #[inline]
+    pub(crate) fn text_end(self) -> Result<usize, WireFault>
+        ensures { Told (Ends self.entry.bytes.now) self.entry.bytes.now (text (held self.entry) (left_after self.entry)) result }
+    {
+        match ill_formed(self.held()) {
+            None => Ok(self.after()),
+            Some(i) => Err(WireReason::NotUtf8.at(self.from + i)),
+        }
     }
 }

@@ -1,5 +1,5 @@
-ghost use Rattle.std.specs.Prelude.{◌≡◌, [], ◌∷◌, Some};
-ghost use Rattle.resp.specs.Cases.{Cased, begins, case_by, case_in};
+ghost use Rattle.std.specs.Prelude.{◌≡◌, Some};
+ghost use Rattle.resp.specs.Cases.{Cased, case_by, case_in};
 
 use crate::kind::{Kind, kind_of};
 
@@ -23,44 +23,16 @@ pub enum Case {
     ServerError,
 }
 
-fn starts_ok(line: &[u8]) -> bool
-    ensures { result ≡ begins (79 ∷ 75 ∷ 13 ∷ 10 ∷ []) line.now }
-{
-    matches!(line, [b'O', b'K', b'\r', b'\n', ..])
-}
-
-fn starts_minus(line: &[u8]) -> bool
-    ensures { result ≡ begins (45 ∷ []) line.now }
-{
-    matches!(line, [b'-', ..])
-}
-
 /// The case of a kind's reply, by the line after its first byte.
 fn case_by(kind: Kind, line: &[u8]) -> Case
     ensures { Some result ≡ case_by (Some kind) line.now }
 {
     match kind {
-        Kind::SimpleString => {
-            if starts_ok(line) {
-                Case::Okay
-            } else {
-                Case::SimpleString
-            }
-        }
-        Kind::BulkString => {
-            if starts_minus(line) {
-                Case::Nil
-            } else {
-                Case::BulkString
-            }
-        }
-        Kind::Array => {
-            if starts_minus(line) {
-                Case::Nil
-            } else {
-                Case::Array
-            }
-        }
+        Kind::SimpleString if line.starts_with(b"OK\r\n") => Case::Okay,
+        Kind::BulkString | Kind::Array if line.starts_with(b"-") => Case::Nil,
+        Kind::SimpleString => Case::SimpleString,
+        Kind::BulkString => Case::BulkString,
+        Kind::Array => Case::Array,
         Kind::SimpleError | Kind::BulkError => Case::ServerError,
         Kind::Integer => Case::Int,
         Kind::Null => Case::Nil,
@@ -79,13 +51,10 @@ fn case_by(kind: Kind, line: &[u8]) -> Case
 fn first_case(reply: &[u8]) -> Option<Case>
     ensures { result ≡ case_in reply.now }
 {
-    if reply.len() == 0 {
+    let [first, line @ ..] = reply else {
         return None;
-    }
-    match kind_of(reply[0]) {
-        Some(kind) => Some(case_by(kind, &reply[1..])),
-        None => None,
-    }
+    };
+    Some(case_by(kind_of(*first)?, line))
 }
 
 /// The case of the whole reply that begins the bytes, told by its first bytes alone.

@@ -1,5 +1,7 @@
-ghost use Rattle.std.specs.Prelude.{◌≡◌};
+ghost use Rattle.std.specs.Prelude.{◌≡◌, Some};
 ghost use Rattle.resp.specs.Answer.{number, words};
+
+use std::fmt;
 
 /// Why no whole reply is read, by number.
 #[derive(Clone, Copy, PartialEq, Eq, Debug)]
@@ -51,5 +53,24 @@ impl WireReason {
             WireReason::NotClosed => "body not closed",
             WireReason::NotUtf8 => "not UTF-8",
         }
+    }
+
+    /// The refusal for that reason, at a place.
+    pub(crate) fn at(self, place: usize) -> WireFault
+        ensures { result ≡ record { reason = self; place = place } }
+    {
+        WireFault {
+            reason: self,
+            place,
+        }
+    }
+}
+
+/// A reason is written as its name.
+impl fmt::Display for WireReason {
+    ghost output = { λ reason. Some (words reason) };
+
+    fn fmt<W: fmt::Write>(&self, f: &mut fmt::Formatter<W>) -> fmt::Result {
+        f.write_str(self.name())
     }
 }

@@ -2,7 +2,7 @@ ghost use Rattle.resp.specs.Reading.{kind_of};
 ghost use Rattle.std.specs.Prelude.{◌≡◌};
 
 /// The fifteen kinds that a reply's first character tells apart.
-#[derive(Clone, Copy)]
+#[derive(Clone, Copy, PartialEq, Eq, Debug)]
 pub enum Kind {
     SimpleString,
     SimpleError,

@@ -2,8 +2,10 @@
 
 mod body;
 mod case;
+mod closed;
 mod fault;
 mod head;
+mod item;
 mod kind;
 mod laws;
 mod leaf;

@@ -1,52 +1,35 @@
-ghost use Rattle.std.specs.Prelude.{◌+◌, ◌<◌, length, drop};
+ghost use Rattle.std.specs.Prelude.{◌+◌};
 ghost use Rattle.resp.specs.Limits.{line_most};
 ghost use Rattle.resp.specs.Reading.{line};
-ghost use Rattle.resp.specs.Told.{Lines, Told};
+ghost use Rattle.resp.specs.Told.{Lines, Tells};
 
+use crate::closed::Closed;
 use crate::fault::{WireFault, WireReason};
+use crate::item::Item;
 use crate::limits::LINE_MOST;
 
-/// Where the line of the item at `at` ends: the place of its CR LF. The content starts after the item's first byte.
-pub(crate) fn line_end(bytes: &[u8], at: usize) -> Result<usize, WireFault>
-    requires { at < length bytes.now }
-    ensures { Told (Lines bytes.now (at + 1)) bytes.now (line (drop at bytes.now) line_most (drop (at + 1) bytes.now)) result }
-{
-    let from = at + 1;
-    let mut n = 0;
-    while from + n < bytes.len() {
-        match bytes[from + n] as char {
-            '\r' => {
-                if from + n + 1 == bytes.len() {
-                    return Err(WireFault {
-                        reason: WireReason::NotWhole,
-                        place: bytes.len(),
-                    });
-                }
-                if bytes[from + n + 1] == b'\n' {
-                    return Ok(from + n);
-                }
-                return Err(WireFault {
-                    reason: WireReason::BrokenLine,
-                    place: at,
-                });
-            }
-            '\n' => return Err(WireFault {
-                reason: WireReason::BrokenLine,
-                place: at,
-            }),
-            _ => {
-                if n == LINE_MOST {
-                    return Err(WireFault {
-                        reason: WireReason::LongLine,
-                        place: at,
-                    });
-                }
-                n += 1;
+impl<'a> Item<'a> {
+    /// The item's line, whose content starts after the item's first byte.
+    pub(crate) fn line(self) -> Result<Closed<'a>, WireFault>
+        ensures { Tells (λ bs. Lines bs (self.entry.at + 1)) (λ s. line s line_most) self.entry result }
+    {
+        let from = self.at + 1;
+        for (n, byte) in self.bytes[from..].iter().enumerate() {
+            match *byte as char {
+                '\r' => return match &self.bytes[from + n + 1..] {
+                    [] => Err(WireReason::NotWhole.at(self.bytes.len())),
+                    [b'\n', ..] => Ok(Closed {
+                        bytes: self.bytes,
+                        from,
+                        end: from + n,
+                    }),
+                    _ => Err(WireReason::BrokenLine.at(self.at)),
+                },
+                '\n' => return Err(WireReason::BrokenLine.at(self.at)),
+                _ if n == LINE_MOST => return Err(WireReason::LongLine.at(self.at)),
+                _ => {}
             }
         }
+        Err(WireReason::NotWhole.at(self.bytes.len()))
     }
-    Err(WireFault {
-        reason: WireReason::NotWhole,
-        place: bytes.len(),
-    })
 }

@@ -5,7 +5,7 @@ ghost use Rattle.resp.specs.Node.{offset, reading};
 ghost use Rattle.resp.specs.Told.{Ends, Opens, Told, named_end, opened, opening_from, starts_string};
 
 use crate::fault::{WireFault, WireReason};
-use crate::head::head_of;
+use crate::item::Item;
 use crate::kind::kind_of;
 use crate::limits::DEEPEST;
 use crate::opening::Opening;
@@ -15,24 +15,13 @@ pub(crate) fn open_at(bytes: &[u8], at: usize, depth_left: usize) -> Result<Open
     ensures { Told (Opens bytes.now) bytes.now (opening_from depth_left bytes.now at) result }
 {
     if at >= bytes.len() {
-        return Err(WireFault {
-            reason: WireReason::NotWhole,
-            place: bytes.len(),
-        });
+        return Err(WireReason::NotWhole.at(bytes.len()));
     }
     if depth_left == 0 {
-        return Err(WireFault {
-            reason: WireReason::Limit,
-            place: at,
-        });
+        return Err(WireReason::Limit.at(at));
     }
-    let Some(kind) = kind_of(bytes[at]) else {
-        return Err(WireFault {
-            reason: WireReason::UnknownKind,
-            place: at,
-        });
-    };
-    head_of(bytes, at, kind)
+    let kind = kind_of(bytes[at]).ok_or(WireReason::UnknownKind.at(at))?;
+    Item { bytes, at }.head_of(kind)
 }
 
 fn open_front(bytes: &[u8]) -> Result<Opening, WireFault>
@@ -63,7 +52,7 @@ fn is_string(reply: &[u8]) -> bool
 fn is_string_at(bytes: &[u8], at: usize) -> bool
     ensures { result ≡ starts_string (drop at bytes.now) }
 {
-    at < bytes.len() && is_string(&bytes[at..])
+    bytes.get(at..).is_some_and(is_string)
 }
 
 /// The end of a push's first item, which is at `at` and has been read: it has to be a string.
@@ -73,10 +62,7 @@ fn named_end(bytes: &[u8], at: usize, end: usize) -> Result<usize, WireFault>
     if is_string_at(bytes, at) {
         Ok(end)
     } else {
-        Err(WireFault {
-            reason: WireReason::Content,
-            place: at,
-        })
+        Err(WireReason::Content.at(at))
     }
 }
 

@@ -1,6 +1,6 @@
 use Rattle.std.proofs.Common.{arith}
 use Rattle.std.proofs.lemmas.Result.{err_from_is_err_and}
-use Rattle.resp.proofs.Walks.{deep_enough, walk_shut, push_some, push_fault, push_other, rest_items, rest_push, rest_more, rest_fault, rest_done}
+use Rattle.resp.proofs.Walks.{walk_shut, push_some, push_fault, push_other, rest_items, rest_push, rest_more, rest_fault}
 use Rattle.resp.proofs.walking.+walk_at.Goals as goal
 use Rattle.resp.proofs.walking.+walk_at.Goals.{then-named+in_ok-first+in_ok-end, else-named}
 
@@ -46,18 +46,3 @@ returns-in_err-end-2 t c =
 pub loop-item-preserved : goal.loop-item-preserved
 loop-item-preserved t c =
     rest_more c.args.bytes.now c.args.at c.args.depth_left c.if-named.left c.loop-item._item c.loop-item.end c.in_ok-end-2.end c.loop-item.invariant (omega arith) c.in_ok-end-2.ensures
-
-pub returns : goal.returns
-returns t c = rest_done c.args.bytes.now c.args.at c.args.depth_left c.if-named.left c.loop-item._item c.loop-item.end c.loop-item.invariant (omega arith)
-
-pub overflow_sub-depth_left : goal.overflow_sub-depth_left
-overflow_sub-depth_left t c = deep_enough c.args.bytes.now c.args.depth_left c.args.at c.in_ok-items.field-0 c.in_ok-items.ensures
-
-pub walk_at-requires : goal.walk_at-requires
-walk_at-requires t c = let deep = deep_enough c.args.bytes.now c.args.depth_left c.args.at c.in_ok-items.field-0 c.in_ok-items.ensures in (omega arith, tt)
-
-pub overflow_sub-depth_left-in-loop-item : goal.overflow_sub-depth_left-in-loop-item
-overflow_sub-depth_left-in-loop-item t c = deep_enough c.args.bytes.now c.args.depth_left c.args.at c.in_ok-items.field-0 c.in_ok-items.ensures
-
-pub walk_at-requires-in-loop-item : goal.walk_at-requires-in-loop-item
-walk_at-requires-in-loop-item t c = let deep = deep_enough c.args.bytes.now c.args.depth_left c.args.at c.in_ok-items.field-0 c.in_ok-items.ensures in (omega arith, tt)
