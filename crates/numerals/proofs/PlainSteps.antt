@@ -13,12 +13,12 @@ abbrev pub read_on : ℕ → List ℕ → Option ℕ
 read_on = try_fold pushed
 
 -- more digits never make a number smaller
-value_le : (n : ℕ) (c : List ℕ) → n ≤ value_on n c
+pub value_le : (n : ℕ) (c : List ℕ) → n ≤ value_on n c
 value_le n [] = omega arith
 value_le n (b ∷ c) = omega (arith, value_le (n * 10 + (b - 48)) c)
 
 -- it makes no difference whether the cap is put on early
-cap_early : (n m : ℕ) (c : List ℕ) → m ≡ min n (2 ^ 64 - 1) → min (value_on m c) (2 ^ 64 - 1) ≡ min (value_on n c) (2 ^ 64 - 1)
+pub cap_early : (n m : ℕ) (c : List ℕ) → m ≡ min n (2 ^ 64 - 1) → min (value_on m c) (2 ^ 64 - 1) ≡ min (value_on n c) (2 ^ 64 - 1)
 cap_early n m c e =
     ⊎_elim
     (λ h. let s : m ≡ n = omega arith in rw s)
