@@ -34,12 +34,7 @@ impl<T: Drop> From<AllocFailed<T>> for HexError {
 fn digit(c: u8) -> Option<u8>
     ensures { MatchOption result ((v : ℕ) → Writes c v → ⊥) (λ v. Writes c v) }
 {
-    match c {
-        b'0'..=b'9' => Some(c - b'0'),
-        b'a'..=b'f' => Some(c - b'a' + 10),
-        b'A'..=b'F' => Some(c - b'A' + 10),
-        _ => None,
-    }
+    char::from(c).to_digit(16).map(|v| v as u8)
 }
 
 /// The byte that two hex digits spell.

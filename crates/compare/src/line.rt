@@ -6,22 +6,14 @@ pub fn without_newline(line: &[u8]) -> &[u8]
     ensures ended { Ended line.now → result.now ≡ take (length line.now - 1) line.now }
     ensures open { (Ended line.now → ⊥) → result.now ≡ line.now }
 {
-    match line.last() {
-        Some(b'\n') => &line[0..line.len() - 1],
-        _ => line,
-    }
+    line.strip_suffix(b"\n").unwrap_or(line)
 }
 
 /// Where the first tab stands.
 fn first_tab(line: &[u8]) -> Option<usize>
     ensures { MatchOption result (NoTabBelow (length line.now) line.now) (λ i. FirstTab i line.now) }
 {
-    for (i, b) in line.iter().enumerate() {
-        if *b == b'\t' {
-            return Some(i);
-        }
-    }
-    None
+    line.iter().position(|b| *b == b'\t')
 }
 
 /// What stands before the first tab, and what after it.
@@ -29,5 +21,5 @@ pub fn cut_at_tab(line: &[u8]) -> Option<(&[u8], &[u8])>
     ensures { MatchOption result (NoTabBelow (length line.now) line.now) (λ p. Cut line.now p.0.now p.1.now) }
 {
     let tab = first_tab(line)?;
-    Some((&line[0..tab], &line[tab + 1..]))
+    Some((&line[..tab], &line[tab + 1..]))
 }

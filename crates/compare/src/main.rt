@@ -12,11 +12,12 @@ ghost use Rattle.compare.specs.Answering.{Answers, wire_answer};
 mod answer;
 mod hex;
 mod line;
+mod question;
 mod shape;
 
-use answer::{Answer, BadLine};
-use hex::{HexError, decode};
-use line::{cut_at_tab, without_newline};
+use answer::Answer;
+use line::without_newline;
+use question::{Question, Refusal};
 use shape::Shape;
 use std::alloc::{AllocError, Global};
 use std::io;
@@ -36,26 +37,19 @@ fn answer_wire(bytes: &[u8]) -> Answer
 fn answer_line(heap: Global, line: &[u8]) -> Result<Answer, AllocError>
     ensures { IfOk result (λ a. Answers line.now a) }
 {
-    let Some((name, text)) = cut_at_tab(line) else {
-        return Ok(Answer::Bad(BadLine::NoTab));
-    };
-    let Some(shape) = Shape::named(name) else {
-        return Ok(Answer::Bad(BadLine::UnknownShape));
-    };
-    let bytes = match decode(heap, text) {
-        Ok(bytes) => bytes,
-        Err(HexError::Odd) => return Ok(Answer::Bad(BadLine::OddHex)),
-        Err(HexError::NotHex) => return Ok(Answer::Bad(BadLine::NotHex)),
-        Err(HexError::NoMemory) => return Err(AllocError),
-    };
-    match shape {
-        Shape::Wire => Ok(answer_wire(&bytes)),
+    match Question::read(heap, line) {
+        Ok(question) => match question.shape {
+            Shape::Wire => Ok(answer_wire(&question.bytes)),
+        },
+        Err(Refusal::Bad(why)) => Ok(Answer::Bad(why)),
+        Err(Refusal::NoMemory) => Err(AllocError),
     }
 }
 
 fn main(rt: HostRuntime) -> io::Result<()> {
     let mut input = BufReader::new(rt.alloc(), rt.stdin())?;
     let mut line = Vec::new(rt.alloc());
+    // kept: a `while` over the reads needs a measure, and nothing says how much is left of the input
     for _ in 0..u64::MAX {
         line.clear();
         if input.read_until(b'\n', &mut line)? == 0 {

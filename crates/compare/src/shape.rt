@@ -1,5 +1,9 @@
-ghost use Rattle.std.specs.Prelude.{◌≡◌, MatchOption, ◌≢◌};
+ghost use Rattle.std.specs.Prelude.{◌≡◌, MatchResult, ◌≢◌};
 ghost use Rattle.compare.specs.Names.{name_of};
+ghost use Rattle.compare.specs.declared.shape.Shape.{Shape};
+ghost use Rattle.compare.specs.declared.answer.BadLine.TheVariants.{UnknownShape};
+
+use super::answer::BadLine;
 
 /// What the bytes of a question are to be read as.
 #[derive(Clone, Copy, PartialEq, Eq, Debug)]
@@ -8,14 +12,16 @@ pub enum Shape {
     Wire,
 }
 
-impl Shape {
-    /// The shape of that name.
-    pub fn named(name: &[u8]) -> Option<Shape>
-        ensures { MatchOption result ((s : Shape) → name.now ≢ name_of s) (λ s. name.now ≡ name_of s) }
-    {
+/// The shape of that name.
+impl TryFrom<&[u8]> for Shape {
+    type Error = BadLine;
+
+    ghost try_from_gives = { λ name r. MatchResult r (λ s. name.now ≡ name_of s) (λ e. (e ≡ UnknownShape) × ((s : Shape) → name.now ≢ name_of s)) };
+
+    fn try_from(name: &[u8]) -> Result<Shape, BadLine> {
         match name {
-            b"wire" => Some(Shape::Wire),
-            _ => None,
+            b"wire" => Ok(Shape::Wire),
+            _ => Err(BadLine::UnknownShape),
         }
     }
 }

@@ -1,12 +1,13 @@
--- The digits at the front of a text, and the loop that adds digits to a number.
-use Rattle.std.proofs.Common.{◌≡◌, ℕ, ◌+◌, ◌-◌, ◌*◌, ◌^◌, ◌<◌, min, List, [], ◌∷◌, ◌++◌, length, get_or, take, drop, sym, refl, ap, ◌∙◌, ⊎_elim, arith}
+-- The digits at the front of a text, and the fold that adds digits to a number.
+use Rattle.std.proofs.Common.{◌≡◌, ℕ, ◌+◌, ◌-◌, ◌*◌, ◌^◌, ◌≤◌, min, List, [], ◌∷◌, ◌++◌, take, drop, sym, refl, ap, ◌∙◌, ⊎_elim, arith}
 use Rattle.std.specs.Char.{is_ascii_digit}
-use Rattle.std.proofs.lemmas.List.{append_cancel_right, at_drop_more, take-append-drop}
-use Rattle.std.proofs.lemmas.Bool.{cases_Bool, cases_lt}
+use Rattle.std.proofs.lemmas.List.{append_cancel_right, take-append-drop}
+use Rattle.std.proofs.lemmas.Bool.{cases_Bool}
 use Rattle.numerals.specs.Plain.{value, value_on}
 use Rattle.numerals.specs.Double.{after_digits}
 use Rattle.decimals.specs.Decimal.{front_digits}
-use Rattle.decimals.proofs.WholeSteps.{value_le}
+use Rattle.numerals.proofs.PlainSteps.{cap_early}
+use Rattle.std.specs.List.{fold}
 
 pub front_rest : (c : List ℕ) → front_digits c ++ after_digits c ≡ c
 front_rest [] = refl
@@ -16,18 +17,15 @@ pub take_front : (c : List ℕ) (n : ℕ) → drop n c ≡ after_digits c → ta
 take_front c n e =
     append_cancel_right (take n c) (front_digits c) (after_digits c) (ap (λ l. take n c ++ l) (sym e) ∙ take-append-drop n c ∙ sym (front_rest c))
 
--- it makes no difference whether the cap is put on early
-pub cap_early : (n m : ℕ) (c : List ℕ) → m ≡ min n (2 ^ 64 - 1) → min (value_on m c) (2 ^ 64 - 1) ≡ min (value_on n c) (2 ^ 64 - 1)
-cap_early n m c e =
-    ⊎_elim
-    (λ h. let s : m ≡ n = omega arith in rw s)
-    (λ h. omega (arith, value_le n c, value_le m c))
-    (cases_lt n (2 ^ 64 - 1))
+-- the number with one more digit behind it, and the cap put on
+abbrev pub add_digit : ℕ → ℕ → ℕ
+add_digit n b = min (n * 10 + (b - 48)) (2 ^ 64 - 1)
 
-pub add_more : (n m : ℕ) (c : List ℕ) (i : ℕ) → i < length c → m ≡ min (n * 10 + (get_or c i 0 - 48)) (2 ^ 64 - 1)
-    → min (value_on n (drop i c)) (2 ^ 64 - 1) ≡ min (value_on m (drop (i + 1) c)) (2 ^ 64 - 1)
-add_more n m c i lt e =
-    at_drop_more (λ l. min (value_on n l) (2 ^ 64 - 1)) c i 0 lt ∙ sym (cap_early (n * 10 + (get_or c i 0 - 48)) m (drop (i + 1) c) e)
+pub folded : (n : ℕ) (c : List ℕ) → n ≤ 2 ^ 64 - 1 → fold add_digit n c ≡ min (value_on n c) (2 ^ 64 - 1)
+folded n [] h = omega arith
+folded n (b ∷ c) h =
+    let k = n * 10 + (b - 48) in
+    folded (min k (2 ^ 64 - 1)) c (omega arith) ∙ cap_early k (min k (2 ^ 64 - 1)) c refl
 
 value_append : (n : ℕ) (w f : List ℕ) → value_on n (w ++ f) ≡ value_on (value_on n w) f
 value_append n [] f = refl

@@ -1,9 +1,10 @@
 -- What the tests of a float tell of the whole number that it is.
-use Rattle.std.proofs.Common.{◌≡◌, ℕ, zero, suc, ◌+◌, ◌*◌, ◌/◌, ◌%◌, ◌^◌, ◌<◌, ◌≤◌, Bool, true, false, cond, ◌&&◌, T, eqb, ltb, leb, ℤ, pos, negsuc, Some, None, sym, refl, ap, ◌∙◌, subst, div-lt_iff_lt-mul, div-add-mod', le-div_iff_mul-le, zero-mul, div-one, arith, ltb→lt, pow_pos}
+use Rattle.std.specs.Bool.{then_some}
+use Rattle.std.proofs.Common.{Option, ⊎_elim, ◌≡◌, ℕ, zero, suc, ◌+◌, ◌*◌, ◌/◌, ◌%◌, ◌^◌, ◌<◌, ◌≤◌, Bool, true, false, cond, ◌&&◌, T, eqb, ltb, leb, ℤ, pos, negsuc, Some, None, sym, refl, ap, ◌∙◌, subst, div-lt_iff_lt-mul, div-add-mod', le-div_iff_mul-le, zero-mul, div-one, arith, ltb→lt, pow_pos}
 use native.Mathlib.Nat.{zero-mod, zero-div}
 use lib.Ieee.{Float, nan, inf, fin, binary64, low, emax, up, down, lt, eq, neg, fits, of_bits, of_int, to_unsigned}
 use lib.Ieee.Fits.{up_pos, down_pos, and_l, and_r}
-use Rattle.std.proofs.lemmas.Bool.{and_parts, ltb-true, ltb-false, lt-ltb, eqb-true, eq-eqb, both_ways, false≢true}
+use Rattle.std.proofs.lemmas.Bool.{cases_Bool, and_parts, ltb-true, ltb-false, lt-ltb, eqb-true, eq-eqb, both_ways, false≢true}
 use Rattle.decimals.specs.Whole.{some_signed}
 use Rattle.decimals.specs.Floats.{natural_float, whole_float_capped}
 use Rattle.decimals.proofs.WholeSteps.{sign_capped}
@@ -61,12 +62,12 @@ natural_none (fin false m e) f =
     let all = eqb-true (m * up e % down e) 0 q.0 in
     f (m * up e / down e) (omega arith) (omega (arith, div-add-mod' (m * up e) (down e)), λ no. absurd (false≢true no)))
 
-pub exact_some : (x : Float) (n : ℕ) → n ≡ to_unsigned 64 x → lt x two53 ≡ true → eq (of_int binary64 (pos n)) x ≡ true → Some n ≡ natural_float x
+exact_some : (x : Float) (n : ℕ) → n ≡ to_unsigned 64 x → lt x two53 ≡ true → eq (of_int binary64 (pos n)) x ≡ true → Some n ≡ natural_float x
 exact_some x n is low t =
     let le : n ≤ 2 ^ 53 = omega (arith, cast_le x low) in
     sym (natural_is x n (omega arith) (eq_value (of_int binary64 (pos n)) x n (natural_value n le) t))
 
-pub exact_none : (x : Float) (n : ℕ) → n ≡ to_unsigned 64 x → lt x two53 ≡ true → eq (of_int binary64 (pos n)) x ≡ false → None ≡ natural_float x
+exact_none : (x : Float) (n : ℕ) → n ≡ to_unsigned 64 x → lt x two53 ≡ true → eq (of_int binary64 (pos n)) x ≡ false → None ≡ natural_float x
 exact_none x n is low t =
     let le : n ≤ 2 ^ 53 = omega (arith, cast_le x low) in
     natural_none x
@@ -84,7 +85,7 @@ few_digits s m e held =
     ltb→lt (suc m) (2 ^ 53) (and_r odd few (and_l (odd && few) fine (and_l (odd && few && fine) small held)))
 
 -- from 2 ^ 53 on each float is whole
-pub high_some : (x : Float) (n : ℕ) → T (fits binary64 x) → n ≡ to_unsigned 64 x → lt x two53 ≡ false → lt x two64 ≡ true → Some n ≡ natural_float x
+high_some : (x : Float) (n : ℕ) → T (fits binary64 x) → n ≡ to_unsigned 64 x → lt x two53 ≡ false → lt x two64 ≡ true → Some n ≡ natural_float x
 unfolding lt of_bits to_unsigned
 high_some nan n held is high low = absurd (false≢true low)
 high_some (inf s) n held is high low = absurd (both_ways s high low)
@@ -99,7 +100,7 @@ high_some (fin false (suc m) (negsuc k)) n held is high low =
     let le = ltb-false (suc m * 1 * 1) (2 ^ 53 * 2 ^ suc k) high in
     absurd (omega (arith, few_digits false m (negsuc k) held, pow_pos (suc k)))
 
-pub high_none : (x : Float) → lt x two53 ≡ false → lt x two64 ≡ false → None ≡ natural_float x
+high_none : (x : Float) → lt x two53 ≡ false → lt x two64 ≡ false → None ≡ natural_float x
 unfolding lt of_bits
 high_none nan low high = refl
 high_none (inf s) low high = refl
@@ -108,6 +109,22 @@ high_none (fin false m e) low high =
     let le : 2 ^ 64 * down e ≤ m * up e = omega (arith, ltb-false (m * up e * 1) (2 ^ 64 * down e) high) in
     let big : 2 ^ 64 ≤ m * up e / down e = (le-div_iff_mul-le (down_pos e)).1 le in
     none_by _ _ (λ t. let lt = ltb-true (m * up e / down e) (2 ^ 64) (and_parts (eqb (m * up e % down e) 0) _ t).1 in omega arith)
+
+-- Below 2 ^ 53 the number is tried, and from there on it is whole.
+
+pub low_case : (x : Float) (n : ℕ) (r : Option ℕ) → n ≡ to_unsigned 64 x → lt x two53 ≡ true → r ≡ then_some (eq (of_int binary64 (pos n)) x) n → r ≡ natural_float x
+low_case x n r is below e =
+    ⊎_elim
+    (λ t. e ∙ rw t (exact_some x n is below t))
+    (λ t. e ∙ rw t (exact_none x n is below t))
+    (cases_Bool (eq (of_int binary64 (pos n)) x))
+
+pub high_case : (x : Float) (n : ℕ) (r : Option ℕ) → T (fits binary64 x) → n ≡ to_unsigned 64 x → lt x two53 ≡ false → r ≡ then_some (lt x two64) n → r ≡ natural_float x
+high_case x n r held is high e =
+    ⊎_elim
+    (λ t. e ∙ rw t (high_some x n held is high t))
+    (λ t. e ∙ rw t (high_none x high t))
+    (cases_Bool (lt x two64))
 
 -- The sign.
 

@@ -1,5 +1,5 @@
 -- Which numbers floats are.
-use Rattle.std.proofs.Common.{◌≡◌, ℕ, suc, ◌*◌, ◌/◌, ◌%◌, ◌^◌, ◌<◌, ◌≤◌, Bool, true, false, not, ◌&&◌, ◌||◌, T, eqb, ℤ, pos, negsuc, nat_abs, sym, refl, ap, ◌∙◌, subst, zero-mul, mul-one, mul_right_comm, mul-div_cancel, arith, eqb→eq}
+use Rattle.std.proofs.Common.{Option, MatchOption, ◌⊎◌, ⊎_elim, inl, inr, ◌≡◌, ℕ, suc, ◌*◌, ◌/◌, ◌%◌, ◌^◌, ◌<◌, ◌≤◌, Bool, true, false, not, ◌&&◌, ◌||◌, T, eqb, ℤ, pos, negsuc, nat_abs, sym, refl, ap, ◌∙◌, subst, zero-mul, mul-one, mul_right_comm, mul-div_cancel, arith, eqb→eq}
 use mathlib.Core.Bool.{beq}
 use native.Mathlib.Nat.{mul-mod_left, eq_of_mul-eq-mul_right}
 use lib.Signed.{lt_z}
@@ -8,7 +8,8 @@ use lib.Ieee.Exact.{HasValue}
 use lib.Ieee.Fits.{down_pos, and_l, and_r, and_i, eq→eqb}
 use lib.Ieee.Bits.{is_true}
 use lib.Ieee.Back.{round_whole}
-use Rattle.std.proofs.lemmas.Bool.{le-ltb}
+use Rattle.decimals.specs.Floats.{exact_float}
+use Rattle.std.proofs.lemmas.Bool.{le-leb, lt-leb, cases_lt, le-ltb}
 
 pub neg_value : (x : Float) (s : Bool) (a c : ℕ) → HasValue x s a c → HasValue (neg x) (not s) a c
 unfolding neg
@@ -83,3 +84,13 @@ value_eq (fin false m e) (fin j n d) a h k =
 -- a whole number of units divides with nothing left
 pub whole_parts : (w n d : ℕ) → 0 < d → w ≡ n * d → (w % d ≡ 0) × (w / d ≡ n)
 whole_parts w n d D e = (ap (λ (x : ℕ). x % d) e ∙ mul-mod_left n d, ap (λ (x : ℕ). x / d) e ∙ mul-div_cancel n D)
+
+pub exact_value : (z : ℤ) (r : Option Float) → r ≡ exact_float z → MatchOption r (2 ^ 53 < nat_abs z) (λ x. HasValue x (lt_z z (pos 0)) (nat_abs z) 1)
+exact_value z r e =
+    ⊎_elim
+    (λ h. rw (e, le-leb (nat_abs z) (2 ^ 53) h) (int_value z h))
+    (λ h. rw (e, lt-leb (nat_abs z) (2 ^ 53) h) h)
+    (cases_le (nat_abs z) (2 ^ 53))
+  where
+    cases_le : (a b : ℕ) → (a ≤ b) ⊎ (b < a)
+    cases_le a b = ⊎_elim (λ h. inr h) (λ h. inl h) (cases_lt b a)

@@ -22,25 +22,21 @@ pub digits_test : (c : List ℕ) → digits_then is_empty c ≡ is_digits c
 digits_test [] = refl
 digits_test (b ∷ c) = ⊎_elim (λ t. rw t (all_after c)) (λ t. rw t) (cases_Bool (is_ascii_digit b))
 
-none_clamped : (s : Bool) (c : List ℕ) → is_digits c ≡ false → None ≡ some_clamped (some_signed s (natural_in c))
-none_clamped s c t = rw t
-
 clamp_sign : (s : Bool) (n : ℕ) → clamped (with_sign s n) ≡ with_sign s (min n (2 ^ 64 - 1))
 clamp_sign true zero = refl
 clamp_sign true (suc n) = refl
 clamp_sign false n = refl
 
-some_clamped_lem : (s : Bool) (c : List ℕ) (n : ℕ) → is_digits c ≡ true → n ≡ min (value c) (2 ^ 64 - 1) → Some (with_sign s n) ≡ some_clamped (some_signed s (natural_in c))
-some_clamped_lem s c n t e = rw t (ap Some (ap (with_sign s) e ∙ sym (clamp_sign s (value c))))
+capped_digits : (s t : Bool) (c : List ℕ) → cond t (Some (with_sign s (min (value c) (2 ^ 64 - 1)))) None ≡ some_clamped (some_signed s (cond t (Some (value c)) None))
+capped_digits s true c = ap Some (sym (clamp_sign s (value c)))
+capped_digits s false c = refl
 
-pub exponent_none : (c d : List ℕ) → d ≡ magnitude_in true c → false ≡ digits_then is_empty d → None ≡ some_clamped (whole_in true c)
-exponent_none c d e t = none_clamped (is_minus true c) (magnitude_in true c) (ap is_digits (sym e) ∙ sym (t ∙ digits_test d))
-
-pub exponent_some : (c d : List ℕ) (s : Bool) (n : ℕ) (z : ℤ) → d ≡ magnitude_in true c → true ≡ digits_then is_empty d → s ≡ is_minus true c
-    → n ≡ min (value d) (2 ^ 64 - 1) → z ≡ with_sign s n → Some z ≡ some_clamped (whole_in true c)
-exponent_some c d s n z e t sign is same =
-    ap Some (same ∙ ap (λ u. with_sign u n) sign)
-    ∙ some_clamped_lem (is_minus true c) (magnitude_in true c) n (ap is_digits (sym e) ∙ sym (t ∙ digits_test d)) (is ∙ ap (λ l. min (value l) (2 ^ 64 - 1)) e)
+pub exponent_is : (c d : List ℕ) (s : Bool) (r : Option ℤ) → s ≡ is_minus true c → d ≡ magnitude_in true c
+    → r ≡ cond (digits_then is_empty d) (Some (with_sign s (min (value d) (2 ^ 64 - 1)))) None → r ≡ some_clamped (whole_in true c)
+exponent_is c d s r sign e is =
+    is ∙ ap (λ t. cond t (Some (with_sign s (min (value d) (2 ^ 64 - 1)))) None) (digits_test d)
+    ∙ capped_digits s (is_digits d) d
+    ∙ (λ i. some_clamped (some_signed (sign i) (natural_in (e i))))
 
 -- The caps are far beyond what one rounding serves.
 

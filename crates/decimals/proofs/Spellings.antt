@@ -1,5 +1,5 @@
 -- Words in any letter case.
-use Rattle.std.proofs.Common.{◌≡◌, ℕ, Bool, true, false, eqb, List, [], ◌∷◌, map, MatchBool, sym, refl, arith}
+use Rattle.std.proofs.Common.{length, get_or, ◌≡◌, ℕ, Bool, true, false, eqb, List, [], ◌∷◌, map, MatchBool, sym, refl, arith}
 use Rattle.std.specs.Char.{to_ascii_lowercase}
 use Rattle.std.specs.Float.Parse.{lowercases_to}
 use Rattle.std.proofs.lemmas.Bool.{and_parts, and_from, eqb-true, eq-eqb, false≢true}
@@ -25,3 +25,16 @@ spells_is false c w h = by (lowercases_to c w) (spells_sound c w)
     by : (t : Bool) → (t ≡ true → map to_ascii_lowercase c ≡ w) → false ≡ t
     by true f = absurd (h (f refl))
     by false f = refl
+
+-- A line of three bytes, or of four, by its bytes.
+
+pub three_bytes : (c : List ℕ) (x y z : ℕ) → length c ≡ 3 → get_or c 0 0 ≡ x → get_or c 1 0 ≡ y → get_or c 2 0 ≡ z → c ≡ x ∷ y ∷ z ∷ []
+three_bytes [] x y z n p q r = absurd (omega arith)
+three_bytes (a ∷ []) x y z n p q r = absurd (omega arith)
+three_bytes (a ∷ b ∷ []) x y z n p q r = absurd (omega arith)
+three_bytes (a ∷ b ∷ d ∷ []) x y z n p q r = λ i. p i ∷ q i ∷ r i ∷ []
+three_bytes (a ∷ b ∷ d ∷ e ∷ c) x y z n p q r = absurd (omega arith)
+
+pub four_bytes : (c : List ℕ) (w x y z : ℕ) → length c ≡ 4 → get_or c 0 0 ≡ w → get_or c 1 0 ≡ x → get_or c 2 0 ≡ y → get_or c 3 0 ≡ z → c ≡ w ∷ x ∷ y ∷ z ∷ []
+four_bytes [] w x y z n o p q r = absurd (omega arith)
+four_bytes (a ∷ c) w x y z n o p q r = λ i. o i ∷ three_bytes c x y z (omega arith) p q r i

@@ -7,20 +7,19 @@ ghost use Rattle.std.specs.Prelude.{◌≡◌, true, map};
 use super::digits::{add_digits, split_digits};
 use super::fault::FloatFault;
 use super::tens::round_once;
-use super::whole::{is_minus, magnitude};
-use numerals::{after_first, after_sign, is_digits, starts_with};
+use super::whole::{split_sign, with_sign};
+use numerals::is_digits;
 
 /// The float that `text` says to Rust's parser of floats, where one rounding gives it. `NotNumber` where it says none,
 /// and `Inexact` where it is a word or has more digits or a larger power of ten than that.
 pub fn read_float(text: &[u8]) -> Result<f64, FloatFault>
     ensures { result ≡ read_float text.now }
 {
-    let unsigned = after_sign(text);
-    if is_word(unsigned) {
-        Err(FloatFault::Inexact)
-    } else {
-        read_number(starts_with(text, b'-'), unsigned)
+    let (negative, number) = split_sign(text, true);
+    if is_word(number) {
+        return Err(FloatFault::Inexact);
     }
+    read_number(negative, number)
 }
 
 /// Whether `text` is `inf`, `infinity` or `nan`, in any letter case.
@@ -51,10 +50,9 @@ fn split_fraction(text: &[u8]) -> (&[u8], &[u8])
     ensures front { result.0.now ≡ fraction_in text.now }
     ensures rest { result.1.now ≡ after_fraction text.now }
 {
-    if starts_with(text, b'.') {
-        split_digits(after_first(text))
-    } else {
-        text.split_at(0)
+    match text {
+        [b'.', digits @ ..] => split_digits(digits),
+        _ => (&[], text),
     }
 }
 
@@ -70,13 +68,9 @@ fn read_scaled(
     if whole.is_empty() && fraction.is_empty() {
         return Err(FloatFault::NotNumber);
     }
-    match read_power(tail) {
-        Some(power) => {
-            let digits = add_digits(add_digits(0, whole), fraction);
-            round_once(negative, digits, power - fraction.len() as i128)
-        }
-        None => Err(FloatFault::NotNumber),
-    }
+    let power = read_power(tail).ok_or(FloatFault::NotNumber)?;
+    let digits = add_digits(add_digits(0, whole), fraction);
+    round_once(negative, digits, power - fraction.len() as i128)
 }
 
 /// The power of ten that `text` writes, or the nearest to it of magnitude below 2^64: 0 where nothing is left, and else
@@ -84,12 +78,10 @@ fn read_scaled(
 fn read_power(text: &[u8]) -> Option<i128>
     ensures { result ≡ some_clamped (power_in text.now) }
 {
-    if text.is_empty() {
-        Some(0)
-    } else if starts_with(text, b'e') || starts_with(text, b'E') {
-        read_exponent(after_first(text))
-    } else {
-        None
+    match text {
+        [] => Some(0),
+        [b'e' | b'E', exponent @ ..] => read_exponent(exponent),
+        _ => None,
     }
 }
 
@@ -97,10 +89,6 @@ fn read_power(text: &[u8]) -> Option<i128>
 fn read_exponent(text: &[u8]) -> Option<i128>
     ensures { result ≡ some_clamped (whole_in true text.now) }
 {
-    let digits = magnitude(text, true);
-    if !is_digits(digits) {
-        return None;
-    }
-    let n = i128::from(add_digits(0, digits));
-    Some(if is_minus(text, true) { -n } else { n })
+    let (negative, digits) = split_sign(text, true);
+    is_digits(digits).then(|| with_sign(negative, add_digits(0, digits)))
 }

@@ -17,10 +17,8 @@ pub fn split_digits(text: &[u8]) -> (&[u8], &[u8])
 pub fn add_digits(start: u64, digits: &[u8]) -> u64
     ensures { result ≡ min (value_on start digits.now) (2 ^ 64 - 1) }
 {
-    let mut value = start;
-    for b in digits {
-        let digit = u64::from(b.saturating_sub(b'0'));
-        value = value.saturating_mul(10).saturating_add(digit);
-    }
-    value
+    digits.iter().fold(start, |value, byte| {
+        let digit = u64::from(byte.saturating_sub(b'0'));
+        value.saturating_mul(10).saturating_add(digit)
+    })
 }

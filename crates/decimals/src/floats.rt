@@ -12,22 +12,15 @@ pub fn exact_float(z: i64) -> Option<f64>
     ensures same { result ≡ exact_float z }
     ensures value { MatchOption result (2 ^ 53 < unsigned_abs z) (λ x. HasValue x (int_lt z (pos 0)) (unsigned_abs z) 1) }
 {
-    if z.unsigned_abs() <= 1 << 53 {
-        Some(z as f64)
-    } else {
-        None
-    }
+    (z.unsigned_abs() <= 1 << 53).then(|| z as f64)
 }
 
 /// The whole number that `x` is; `-0.0` is 0. `None` where `x` is none, or its magnitude is 2^64 or more.
 pub fn whole_of(x: f64) -> Option<i128>
     ensures { result ≡ whole_float_capped x }
 {
-    if is_below_zero(x) {
-        with_sign(true, natural_of(-x))
-    } else {
-        with_sign(false, natural_of(x))
-    }
+    let negative = is_below_zero(x);
+    natural_of(if negative { -x } else { x }).map(|n| with_sign(negative, n))
 }
 
 /// Whether `x` is below 0: then it is the whole number that `-x` is, with a minus.
@@ -43,11 +36,9 @@ fn natural_of(x: f64) -> Option<u64>
 {
     let n = saturating_f64_to_u64(x);
     if x < 9007199254740992.0 {
-        if n as f64 == x { Some(n) } else { None }
-    } else if x < 18446744073709551616.0 {
-        // from 2^53 on each float is whole
-        Some(n)
+        (n as f64 == x).then_some(n)
     } else {
-        None
+        // from 2^53 on each float is whole
+        (x < 18446744073709551616.0).then_some(n)
     }
 }

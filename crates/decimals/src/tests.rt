@@ -1,17 +1,11 @@
 use super::*;
 
 fn float(text: &[u8]) -> f64 {
-    match read_float(text) {
-        Ok(x) => x,
-        Err(_) => f64::NAN,
-    }
+    read_float(text).unwrap_or(f64::NAN)
 }
 
 fn fault(text: &[u8]) -> Option<FloatFault> {
-    match read_float(text) {
-        Ok(_) => None,
-        Err(fault) => Some(fault),
-    }
+    read_float(text).err()
 }
 
 #[test]

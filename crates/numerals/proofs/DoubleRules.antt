@@ -1,5 +1,5 @@
 -- The tests for doubles and big numbers take exactly their lines.
-use Rattle.std.proofs.Common.{◌≡◌, ℕ, Bool, true, false, ◌&&◌, ◌||◌, T, eqb, ◌↔◌, List, [], ◌∷◌, ◌++◌, sym, refl, ap, ◌∙◌, ⊎_elim, arith}
+use Rattle.std.proofs.Common.{◌≡◌, ℕ, Bool, true, false, ◌&&◌, ◌||◌, eqb, ◌↔◌, List, [], ◌∷◌, ◌++◌, refl, ap, ◌∙◌, ⊎_elim, arith}
 use Rattle.std.specs.Char.{is_ascii_digit}
 use Rattle.std.specs.Str.{all_ascii_digits}
 use Rattle.std.proofs.lemmas.List.{append-nil}
@@ -173,7 +173,9 @@ doubles_agree c = (double_sound c, double_complete)
 pub big_numbers_agree : BigNumbersAgree
 big_numbers_agree c = (big_sound c, big_complete)
 
--- an answer that is a test's answer decides what the test decides
-pub rule_from : {P : Type 0} (r t : Bool) → r ≡ t → (t ≡ true) ↔ P → (T r → P) × (P → T r)
-rule_from true t e agree = (λ _. agree.0 (sym e), λ _. tt)
-rule_from false t e agree = (λ no. absurd no, λ p. absurd (false≢true (e ∙ agree.1 p)))
+-- an answer that is the test's answer is right
+pub double_rule : (r : Bool) (c : List ℕ) → r ≡ is_double c → (r ≡ true) ↔ Double c
+double_rule r c e = rw e (doubles_agree c)
+
+pub big_number_rule : (r : Bool) (c : List ℕ) → r ≡ is_big_number c → (r ≡ true) ↔ BigNumber c
+big_number_rule r c e = rw e (big_numbers_agree c)

@@ -1,14 +1,26 @@
--- The steps of the loop that passes over digits.
-use Rattle.std.proofs.Common.{◌≡◌, ℕ, ◌+◌, ◌<◌, ◌≤◌, true, false, List, length, get_or, drop, sym, ◌∙◌, arith}
+-- What is left after all digits at the front begins at the first byte that is none.
+use Rattle.std.proofs.Common.{◌≡◌, ℕ, suc, ◌+◌, ◌≤◌, Bool, not, List, [], ◌∷◌, length, drop, Option, refl, ap, ◌∙◌, ⊎_elim, arith}
+use Rattle.std.specs.Prelude.{position, unwrap_or}
 use Rattle.std.specs.Char.{is_ascii_digit}
-use Rattle.std.proofs.lemmas.List.{at_drop_more, at_drop_all, drop_all}
+use Rattle.std.specs.List.{position_or_len}
+use Rattle.std.proofs.lemmas.Bool.{cases_Bool, cases_lt, lt-ltb, le-ltb}
+use Rattle.std.proofs.lemmas.List.Sums.{prefix_len-le-length}
 use Rattle.numerals.specs.Double.{after_digits}
 
-pub digits_more : (c : List ℕ) (i : ℕ) → i < length c → is_ascii_digit (get_or c i 0) ≡ true → after_digits (drop i c) ≡ after_digits (drop (i + 1) c)
-digits_more c i lt good = at_drop_more after_digits c i 0 lt ∙ rw good
+-- whether b is no digit
+abbrev pub no_digit : ℕ → Bool
+no_digit b = not (is_ascii_digit b)
 
-pub digits_stop : (c : List ℕ) (i : ℕ) → i < length c → is_ascii_digit (get_or c i 0) ≡ false → after_digits (drop i c) ≡ drop i c
-digits_stop c i lt bad = at_drop_more after_digits c i 0 lt ∙ rw bad (sym (at_drop_more (λ d. d) c i 0 lt))
+one_more : (n : ℕ) → 1 + n ≡ suc n
+one_more n = omega arith
 
-pub digits_all : (c : List ℕ) (i : ℕ) → length c ≤ i → after_digits c ≡ after_digits (drop i c) → drop (length c) c ≡ after_digits c
-digits_all c i le e = drop_all (length c) c (omega arith) ∙ sym (e ∙ at_drop_all after_digits c i le)
+digits_before : (c : List ℕ) → drop (position_or_len no_digit c) c ≡ after_digits c
+digits_before [] = refl
+digits_before (b ∷ c) = ⊎_elim (λ t. rw t (ap (λ k. drop k (b ∷ c)) (one_more (position_or_len no_digit c)) ∙ digits_before c)) (λ t. rw t refl) (cases_Bool (is_ascii_digit b))
+
+pub digits_end_lem : (c : List ℕ) (o : Option ℕ) (n : ℕ) → o ≡ position no_digit c → n ≡ unwrap_or o (length c) → drop n c ≡ after_digits c
+digits_end_lem c o n e is =
+    let first = position_or_len no_digit c in
+    let within : first ≤ length c = prefix_len-le-length (λ b. not (no_digit b)) c in
+    let same : n ≡ first = ⊎_elim (λ h. is ∙ rw (e, lt-ltb first (length c) h)) (λ h. is ∙ rw (e, le-ltb first (length c) h) (omega arith)) (cases_lt first (length c)) in
+    ap (λ k. drop k c) same ∙ digits_before c

@@ -1,5 +1,5 @@
+pub mod TryFolds
 pub mod PlainSteps
-pub mod IntegerSteps
 pub mod DoubleSteps
 pub mod IntegerRules
 pub mod DoubleRules

@@ -1,20 +1,21 @@
-ghost use Rattle.std.specs.Prelude.{◌≡◌, ◌≤◌, T, length, drop};
+ghost use Rattle.std.specs.Prelude.{◌≡◌, ◌≤◌, ◌↔◌, IsTrue, MatchBool, drop, false, length};
+ghost use Rattle.std.specs.Fn.{FnReturnsAt};
 ghost use Rattle.numerals.specs.Double.{BigNumber, Double, after_digits, after_sign, digits_then, is_big_number, is_double, is_empty, is_exponent, is_fraction, is_word, starts_with_digit};
 
-use super::front::{after_first, starts_with};
-
 /// Whether `content` is `inf`, `-inf`, `nan` or a decimal number.
+#[tactic(auto, using(crate::proofs::DoubleRules::double_rule))]
 pub fn is_double(content: &[u8]) -> bool
     ensures same { result ≡ is_double content.now }
-    ensures rule { (T result → Double content.now) × (Double content.now → T result) }
+    ensures rule { IsTrue result ↔ Double content.now }
 {
     is_word(content) || is_decimal(content)
 }
 
 /// Whether `content` is one digit or more, with a sign or without.
+#[tactic(auto, using(crate::proofs::DoubleRules::big_number_rule))]
 pub fn is_big_number(content: &[u8]) -> bool
     ensures same { result ≡ is_big_number content.now }
-    ensures rule { (T result → BigNumber content.now) × (BigNumber content.now → T result) }
+    ensures rule { IsTrue result ↔ BigNumber content.now }
 {
     is_digits(after_sign(content))
 }
@@ -30,19 +31,16 @@ fn is_word(content: &[u8]) -> bool
 fn is_decimal(content: &[u8]) -> bool
     ensures { result ≡ digits_then is_fraction (after_sign content.now) }
 {
-    let digits = after_sign(content);
-    starts_with_digit(digits) && is_fraction(after_digits(digits))
+    digits_then(after_sign(content), is_fraction)
 }
 
 /// Whether `content` can stand after the first digits of a double.
 fn is_fraction(content: &[u8]) -> bool
     ensures { result ≡ is_fraction content.now }
 {
-    if starts_with(content, b'.') {
-        let digits = after_first(content);
-        starts_with_digit(digits) && is_exponent(after_digits(digits))
-    } else {
-        is_exponent(content)
+    match content {
+        [b'.', digits @ ..] => digits_then(digits, is_exponent),
+        _ => is_exponent(content),
     }
 }
 
@@ -50,26 +48,35 @@ fn is_fraction(content: &[u8]) -> bool
 fn is_exponent(content: &[u8]) -> bool
     ensures { result ≡ is_exponent content.now }
 {
-    content.is_empty()
-        || (starts_with(content, b'e') || starts_with(content, b'E'))
-            && is_digits(after_sign(after_first(content)))
+    match content {
+        [] => true,
+        [b'e' | b'E', power @ ..] => is_digits(after_sign(power)),
+        _ => false,
+    }
 }
 
 /// Whether `content` is one digit or more.
 pub fn is_digits(content: &[u8]) -> bool
     ensures { result ≡ digits_then is_empty content.now }
 {
-    starts_with_digit(content) && after_digits(content).is_empty()
+    digits_then(content, |rest| rest.is_empty())
+}
+
+/// Whether `content` is one digit or more, and then what `rest` takes.
+fn digits_then<F: Fn(&[u8]) -> bool>(content: &[u8], rest: F) -> bool
+    requires { F.IsAlwaysCallable rest }
+    ensures { MatchBool (starts_with_digit content.now) (FnReturnsAt F.Fn rest (after_digits content.now) result) (result ≡ false) }
+{
+    starts_with_digit(content) && rest(after_digits(content))
 }
 
 /// What is left after a sign, if there is one.
 pub fn after_sign(content: &[u8]) -> &[u8]
     ensures { result.now ≡ after_sign content.now }
 {
-    if starts_with(content, b'+') || starts_with(content, b'-') {
-        after_first(content)
-    } else {
-        content
+    match content {
+        [b'+' | b'-', rest @ ..] => rest,
+        _ => content,
     }
 }
 
@@ -77,10 +84,7 @@ pub fn after_sign(content: &[u8]) -> &[u8]
 fn starts_with_digit(content: &[u8]) -> bool
     ensures { result ≡ starts_with_digit content.now }
 {
-    match content {
-        [first, ..] => first.is_ascii_digit(),
-        [] => false,
-    }
+    matches!(content, [b'0'..=b'9', ..])
 }
 
 /// What is left after all digits at the front.
@@ -95,10 +99,8 @@ pub fn digits_end(content: &[u8]) -> usize
     ensures within { result ≤ length content.now }
     ensures rest { drop result content.now ≡ after_digits content.now }
 {
-    for (i, b) in content.iter().enumerate() {
-        if !b.is_ascii_digit() {
-            return i;
-        }
-    }
-    content.len()
+    content
+        .iter()
+        .position(|b| !b.is_ascii_digit())
+        .unwrap_or(content.len())
 }

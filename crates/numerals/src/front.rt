@@ -5,10 +5,7 @@ ghost use Rattle.std.specs.Prelude.{◌≡◌, drop};
 pub fn starts_with(content: &[u8], byte: u8) -> bool
     ensures { result ≡ starts_with byte content.now }
 {
-    match content {
-        [first, ..] => *first == byte,
-        [] => false,
-    }
+    matches!(content, [first, ..] if *first == byte)
 }
 
 /// `content` without its first byte, if it has one.

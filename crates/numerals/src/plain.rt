@@ -9,24 +9,16 @@ pub fn plain_number(content: &[u8]) -> Option<u64>
     if !has_plain_front(content) {
         return None;
     }
-    let mut value: u64 = 0;
-    for b in content {
-        match push_digit(value, *b) {
-            Some(more) => value = more,
-            None => return None,
-        }
-    }
-    Some(value)
+    content
+        .iter()
+        .try_fold(0, |value, byte| push_digit(value, *byte))
 }
 
 /// Whether there is a first byte, and it is no 0 before others.
 fn has_plain_front(content: &[u8]) -> bool
     ensures { result ≡ plain_front content.now }
 {
-    match content {
-        [] | [b'0', _, ..] => false,
-        _ => true,
-    }
+    !matches!(content, [] | [b'0', _, ..])
 }
 
 /// The number with one more digit behind it, or the largest `u64` where it is larger than that.
@@ -34,10 +26,6 @@ fn has_plain_front(content: &[u8]) -> bool
 fn push_digit(value: u64, byte: u8) -> Option<u64>
     ensures { result ≡ pushed value byte }
 {
-    if byte.is_ascii_digit() {
-        let digit = u64::from(byte - b'0');
-        Some(value.saturating_mul(10).saturating_add(digit))
-    } else {
-        None
-    }
+    let digit = char::from(byte).to_digit(10)?;
+    Some(value.saturating_mul(10).saturating_add(u64::from(digit)))
 }

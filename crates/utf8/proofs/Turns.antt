@@ -6,7 +6,7 @@ use Rattle.std.proofs.lemmas.Bool.{cases_Bool, cases_lt, and_parts, lt-ltb, le-l
 use Rattle.std.proofs.lemmas.Bool.Decides.{nat_tests}
 use Rattle.utf8.specs.declared.State.{State}
 use Rattle.utf8.specs.Scan.{count, least, greatest, scan, ill_formed, Located}
-use Rattle.utf8.specs.Step.{initial, following, beginning, passing, step_of, at_end}
+use Rattle.utf8.specs.Step.{following, beginning, passing, step_of, at_end}
 use Rattle.utf8.specs.Theorems.{Tells}
 use Rattle.utf8.proofs.Steps.{begun, stray, followed, broken, fresh}
 use Rattle.utf8.proofs.Verdict.{accepts, locates}
@@ -102,6 +102,3 @@ module _ {text : List ℕ} {i : ℕ} (s : State) (r : ReadsAt text s i) where
 
   pub finish : length text ≤ i → Answer text (at_end s)
   finish h = ⊎_elim (λ d. rw (lt-ltb 0 s.due d) (stop_end r h d)) (λ d. rw (le-ltb 0 s.due d) (end r h d)) (cases_lt 0 s.due)
-
-pub begins : (text : List ℕ) → ReadsAt text initial 0
-begins text = record { same = refl; inside = λ h. omega arith }

@@ -1,5 +1,5 @@
 -- The table read from left to right, a byte at a time.
-use Rattle.std.specs.Prelude.{◌≡◌, ℕ, zero, suc, ◌-◌, ◌<◌, cond, List, [], ◌∷◌, length, drop, Some, None, Option, ◌==◌, nat_lt}
+use Rattle.std.specs.Prelude.{◌≡◌, ℕ, zero, suc, ◌-◌, ◌<◌, cond, List, [], ◌∷◌, length, drop, Some, None, Option, ◌==◌, nat_lt, if◌then◌else◌}
 use Rattle.std.specs.Int.{is_in_range}
 
 -- how many one-bits a byte begins with
@@ -9,6 +9,10 @@ ones b = cond (nat_lt b 128) 0 (cond (nat_lt b 192) 1 (cond (nat_lt b 224) 2 (co
 -- how many bytes a sequence has, by its lead byte; 0 for a byte that leads none
 abbrev pub count : ℕ → ℕ
 count b = cond (nat_lt b 128) 1 (cond (nat_lt b 194) 0 (cond (nat_lt b 224) 2 (cond (nat_lt b 240) 3 (cond (nat_lt b 245) 4 0))))
+
+-- the same as an option: no length for a byte that leads none
+abbrev pub length_of : ℕ → Option ℕ
+length_of b = if count b == 0 then None else Some (count b)
 
 -- the least and the greatest second byte, by the lead byte
 abbrev pub least : ℕ → ℕ

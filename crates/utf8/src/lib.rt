@@ -3,7 +3,7 @@
 #![tactic(auto)]
 
 ghost use Rattle.std.specs.Prelude.{◌≡◌, ◌<◌};
-ghost use Rattle.utf8.specs.Scan.{Located, count, greatest, ill_formed, least, ones};
+ghost use Rattle.utf8.specs.Scan.{Located, greatest, ill_formed, least, length_of, ones};
 ghost use Rattle.utf8.specs.Step.{at_end, beginning, following, initial, passing, step_of};
 ghost use Rattle.utf8.specs.Theorems.{Accepts, Locates, Standard, Tells};
 
@@ -14,44 +14,38 @@ fn leading_run(byte: u8) -> u32
     byte.leading_ones()
 }
 
-/// How many bytes the sequence that `lead` begins has, or 0 if `lead` begins none.
+/// How many bytes the sequence that `lead` begins has, or `None` if `lead` begins none.
 /// The run of one-bits at the front of `lead` is its length, and a byte with none stands alone.
-fn sequence_length(lead: u8) -> u8
-    ensures { result ≡ count lead }
+fn sequence_length(lead: u8) -> Option<u8>
+    ensures { result ≡ length_of lead }
 {
     match leading_run(lead) {
-        0 => 1,
-        2 => { if lead < 0xC2 { 0 } else { 2 } }
-        3 => 3,
-        4 => { if lead > 0xF4 { 0 } else { 4 } }
-        _ => 0,
+        0 => Some(1),
+        2 if lead >= 0xC2 => Some(2),
+        3 => Some(3),
+        4 if lead <= 0xF4 => Some(4),
+        _ => None,
     }
 }
 
-/// The least second byte after `lead`: less would spell a value that has a shorter sequence.
-fn least_second(lead: u8) -> u8
-    ensures { result ≡ least lead }
+/// The least and the greatest second byte after `lead`. Less would spell a value that has a shorter
+/// sequence, and more a surrogate, or a value above U+10FFFF.
+fn second_range(lead: u8) -> (u8, u8)
+    ensures { result ≡ (least lead, greatest lead) }
 {
     match lead {
-        0xE0 => 0xA0,
-        0xF0 => 0x90,
-        _ => 0x80,
-    }
-}
-
-/// The greatest second byte after `lead`: more would spell a surrogate, or a value above U+10FFFF.
-fn greatest_second(lead: u8) -> u8
-    ensures { result ≡ greatest lead }
-{
-    match lead {
-        0xED => 0x9F,
-        0xF4 => 0x8F,
-        _ => 0xBF,
+        0xE0 => (0xA0, 0xBF),
+        0xED => (0x80, 0x9F),
+        0xF0 => (0x90, 0xBF),
+        0xF4 => (0x80, 0x8F),
+        _ => (0x80, 0xBF),
     }
 }
 
 /// How far a text is read: the sequence at `start` has `due` bytes still to come,
 /// the next of them from `low` to `high`.
+// kept: an `Option` of the sequence at hand is no plainer: both readers of a byte would have to test
+// whether that byte is its last one, where the count of bytes due says so by itself
 #[derive(Clone, Copy)]
 struct State {
     start: usize,
@@ -97,38 +91,36 @@ impl State {
         requires { 0 < self.due }
         ensures { result ≡ following self byte }
     {
-        if byte < self.low || byte > self.high {
-            Err(self.start)
-        } else {
-            Ok(State {
-                start: self.start,
-                due: self.due - 1,
-                low: 0x80,
-                high: 0xBF,
-            })
+        if !(self.low..=self.high).contains(&byte) {
+            return Err(self.start);
         }
+        Ok(State {
+            start: self.start,
+            due: self.due - 1,
+            low: 0x80,
+            high: 0xBF,
+        })
     }
 
     /// Reads the first byte of a sequence.
     fn begin(place: usize, byte: u8) -> Result<State, usize>
         ensures { result ≡ beginning place byte }
     {
-        match sequence_length(byte) {
-            0 => Err(place),
-            length => Ok(State {
-                start: place,
-                due: length - 1,
-                low: least_second(byte),
-                high: greatest_second(byte),
-            }),
-        }
+        let length = sequence_length(byte).ok_or(place)?;
+        let (low, high) = second_range(byte);
+        Ok(State {
+            start: place,
+            due: length - 1,
+            low,
+            high,
+        })
     }
 
     /// The verdict where the text ends: a sequence that has bytes due is ill formed.
     fn end(self) -> Option<usize>
         ensures { result ≡ at_end self }
     {
-        if self.due > 0 { Some(self.start) } else { None }
+        (self.due > 0).then_some(self.start)
     }
 }
 
@@ -137,6 +129,7 @@ pub fn ill_formed(text: &[u8]) -> Option<usize>
     ensures located { Located text.now (ill_formed text.now) result }
     ensures tells { Tells text.now result }
 {
+    // kept: `try_fold` is no plainer: it gives a `Result`, which has to be matched for the answer all the same
     let mut state = State::new();
     for (i, byte) in text.iter().enumerate() {
         if state.passes(*byte) {

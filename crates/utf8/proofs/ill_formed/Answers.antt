@@ -1,9 +1,6 @@
 use Rattle.std.proofs.Common.{sym, subst, arith}
-use Rattle.utf8.proofs.Turns.{ReadsAt, After, Answer, begins, pass, turn, finish}
+use Rattle.utf8.proofs.Turns.{After, Answer, pass, turn, finish}
 use Rattle.utf8.proofs.ill_formed.Goals as goal
-
-pub loop-i-init : goal.loop-i-init
-loop-i-init c = subst (λ s. ReadsAt c.args.text.now s 0) (sym c.new-state.ensures) (begins c.args.text.now)
 
 pub loop-i-preserved-then-passes : goal.loop-i-preserved-then-passes
 loop-i-preserved-then-passes c = pass c.loop-i.state c.loop-i.invariant (omega arith) (sym c.if-passes.ensures)

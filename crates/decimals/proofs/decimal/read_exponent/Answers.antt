@@ -1,17 +1,13 @@
-use Rattle.std.proofs.Common.{true, false, arith}
-use Rattle.std.proofs.lemmas.Int.{ints}
-use Rattle.decimals.proofs.ScaledSteps.{exponent_none, exponent_some}
+use Rattle.std.proofs.Common.{◌≡◌, ◌-◌, ◌^◌, min, cond, Some, None, rules}
+use Rattle.numerals.specs.Plain.{value}
+use Rattle.numerals.specs.Double.{digits_then, is_empty}
+use Rattle.decimals.specs.Whole.{with_sign}
+use Rattle.decimals.proofs.ScaledSteps.{exponent_is}
 use Rattle.decimals.proofs.decimal.read_exponent.Goals as goal
 
-pub returns-then-not-is_digits : goal.returns-then-not-is_digits
-returns-then-not-is_digits c = exponent_none c.args.text.now _ c.magnitude-digits.ensures c.if-not-is_digits.ensures
-
-pub returns-then-is_minus : goal.returns-then-is_minus
-returns-then-is_minus c =
-    exponent_some c.args.text.now _ true c.add_digits.result _ c.magnitude-digits.ensures c.if-not-is_digits.ensures
-    c.if-is_minus.ensures c.add_digits.ensures (omega (arith, ints))
-
-pub returns-else-is_minus : goal.returns-else-is_minus
-returns-else-is_minus c =
-    exponent_some c.args.text.now _ false c.add_digits.result _ c.magnitude-digits.ensures c.if-not-is_digits.ensures
-    c.if-is_minus.ensures c.add_digits.ensures (omega (arith, ints))
+pub returns : goal.returns
+returns c =
+    let s = c.split_sign-negative.result.0 in
+    let d = c.split_sign-negative.result.1.now in
+    let e : c.then.result ≡ cond (digits_then is_empty d) (Some (with_sign s (min (value d) (2 ^ 64 - 1)))) None = search rules in
+    exponent_is c.args.text.now d s _ c.split_sign-negative.ensures.minus c.split_sign-negative.ensures.magnitude e

@@ -1,13 +1,12 @@
-use Rattle.std.proofs.Common.{sym, ◌∙◌, arith}
-use Rattle.numerals.proofs.DoubleSteps.{digits_more, digits_stop, digits_all}
+use Rattle.std.proofs.Common.{◌≡◌, rules}
+use Rattle.std.specs.Prelude.{position}
+use Rattle.std.proofs.lemmas.Iterator.{YieldsList-from_slice}
+use Rattle.std.proofs.lemmas.Iterator.Search.{position_from_yields_List}
+use Rattle.numerals.proofs.DoubleSteps.{no_digit, digits_end_lem}
 use Rattle.numerals.proofs.double.digits_end.Goals as goal
 
-pub loop-i-preserved : goal.loop-i-preserved
-loop-i-preserved c = c.loop-i.invariant ∙ digits_more c.args.content.now c.loop-i.i (omega arith) (sym c.if-not-is_ascii_digit.ensures.value)
-
-pub returns-then-not-is_ascii_digit : goal.returns-then-not-is_ascii_digit
-returns-then-not-is_ascii_digit c =
-    record { within = omega arith; rest = sym (c.loop-i.invariant ∙ digits_stop c.args.content.now c.loop-i.i (omega arith) (sym c.if-not-is_ascii_digit.ensures.value)) }
-
-pub returns : goal.returns
-returns c = record { within = omega arith; rest = digits_all c.args.content.now c.loop-i.i (omega arith) c.loop-i.invariant }
+pub returns-clause-rest : goal.returns-clause-rest
+returns-clause-rest c =
+    let found : c.position.result ≡ position no_digit c.args.content.now =
+    position_from_yields_List no_digit _ _ _ c.position.ensures.ran (YieldsList-from_slice c.args.content.now c.iter.ensures.rest) (λ b t q k. search rules) in
+    digits_end_lem c.args.content.now _ _ found c.unwrap_or.ensures
