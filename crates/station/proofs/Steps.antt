@@ -123,8 +123,7 @@ wholly_read bs p level t rest lt e = let all : level + (deepest - level) ≡ dee
 pub told_case : (bs : List ℕ) (p level : ℕ) (t : Node) (rest : List ℕ) → level < deepest → tree_at bs p level ≡ ok t rest → (r : Option Case) → Cased (drop p bs) r → r ≡ Some (case_of (erase t))
 told_case bs p level t rest lt e r cased =
     let o = wholly_read bs p level t rest lt e in
-    let some = stands bs p level t rest e in
-    case_told bs p (omega arith) (ok_read (reader bs deepest (drop p bs)) t rest o) r cased t rest o
+    case_told bs p (ok_read (reader bs deepest (drop p bs)) t rest o) r cased t rest o
 
 -- an item that opens is no fault
 pub no_fault : (bs : List ℕ) (p level : ℕ) (t : Node) (rest : List ℕ) → level < deepest → tree_at bs p level ≡ ok t rest → (f : WireFault) → Err f ≡ opened (drop p bs) → ⊥

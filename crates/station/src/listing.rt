@@ -10,7 +10,7 @@ use resp::{Case, Opening, WireFault, case_of, open_item};
 use std::alloc::{AllocError, AllocFailed};
 
 /// One reply, at any level. The outermost is at level 0.
-#[derive(Clone, Copy)]
+#[derive(Clone, Copy, PartialEq, Eq, Debug)]
 pub struct Note {
     pub at: usize,
     pub end: usize,
@@ -20,7 +20,7 @@ pub struct Note {
 }
 
 /// Why a listing stops.
-#[derive(Clone, Copy)]
+#[derive(Clone, Copy, PartialEq, Eq, Debug)]
 pub enum Stop {
     Wire(WireFault),
     Memory,
@@ -55,10 +55,8 @@ impl<T: Drop> From<AllocFailed<T>> for Stop {
 fn set_end(notes: &mut Vec<Note>, index: usize, end: usize)
     ensures { notes.new.items ≡ end_at index end notes.old.items }
 {
-    if index < notes.len() {
-        let mut note = notes[index];
+    if let Some(note) = notes.get_mut(index) {
         note.end = end;
-        notes[index] = note;
     }
 }
 

@@ -84,12 +84,10 @@ impl fmt::Display for Indent {
 fn content_start(reply: &[u8]) -> usize {
     match reply {
         [b'$' | b'!' | b'=', ..] => {
-            for (i, byte) in reply.iter().enumerate() {
-                if *byte == b'\n' {
-                    return i + 1;
-                }
+            match reply.iter().position(|byte| *byte == b'\n') {
+                Some(place) => place + 1,
+                None => reply.len(),
             }
-            reply.len()
         }
         _ => 1,
     }

@@ -8,7 +8,7 @@ use std::fmt;
 
 /// The whole replies that begin a recording, one after another; and the fault of what comes after them, if anything does, with
 /// its place in the recording.
-#[derive(Clone, Copy)]
+#[derive(Clone, Copy, PartialEq, Eq, Debug)]
 pub struct Survey {
     pub replies: u64,
     pub bytes: usize,
@@ -23,15 +23,13 @@ impl fmt::Display for Ending {
     ghost output = { λ e. Some (shown_fault e.0) };
 
     fn fmt<W: fmt::Write>(&self, f: &mut fmt::Formatter<W>) -> fmt::Result {
-        match self.0 {
-            None => Ok(()),
-            Some(fault) => {
-                let number = fault.reason.number();
-                let name = fault.reason.name();
-                let place = fault.place;
-                write!(f, "\nstopped: fault {number}, {name}, at {place}")
-            }
-        }
+        let Some(fault) = self.0 else {
+            return Ok(());
+        };
+        let number = fault.reason.number();
+        let name = fault.reason;
+        let place = fault.place;
+        write!(f, "\nstopped: fault {number}, {name}, at {place}")
     }
 }
 
