@@ -1,13 +1,16 @@
 //! A reply and the items in it, in the order of the wire, each with its place.
 
-ghost use Rattle.std.specs.Prelude.{◌≡◌, List, ℕ};
+ghost use Rattle.std.specs.Prelude.{◌≡◌, List, ℕ, Some};
 ghost use Rattle.resp.specs.Node.{Node};
 ghost use Rattle.resp.specs.Out.{ok};
 ghost use Rattle.station.specs.declared.listing.Stop.TheVariants.{Memory, Wire};
 ghost use Rattle.station.specs.Listing.{Noted, end_at, tree_at};
+ghost use Rattle.station.specs.Shown.{shown_stop};
 
 use resp::{Case, Opening, WireFault, case_of, open_item};
 use std::alloc::{AllocError, AllocFailed};
+use std::error::Error;
+use std::fmt;
 
 /// One reply, at any level. The outermost is at level 0.
 #[derive(Clone, Copy, PartialEq, Eq, Debug)]
@@ -26,6 +29,21 @@ pub enum Stop {
     Memory,
     Deep,
 }
+
+impl fmt::Display for Stop {
+    ghost output = { λ why. Some (shown_stop why) };
+
+    fn fmt<W: fmt::Write>(&self, f: &mut fmt::Formatter<W>) -> fmt::Result {
+        let words = match self {
+            Stop::Wire(_) => "no whole reply to list",
+            Stop::Memory => "no memory to list the items of this reply",
+            Stop::Deep => "too many levels to list",
+        };
+        f.write_str(words)
+    }
+}
+
+impl Error for Stop {}
 
 impl From<WireFault> for Stop {
     ghost from_gives = { λ f r. r ≡ Wire f };

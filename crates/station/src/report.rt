@@ -7,7 +7,6 @@ ghost use Rattle.station.specs.Surveyed.{Surveyed};
 
 use crate::listing::{Note, note_reply};
 use crate::survey::Survey;
-use anyhow::anyhow;
 use resp::{Case, WireFault, walk};
 use std::fmt;
 
@@ -148,10 +147,8 @@ fn print_reply(
     for note in notes.iter() {
         print_note(rt, bytes, note)?;
     }
-    match listed {
-        Ok(_) => Ok(()),
-        Err(_) => Err(anyhow!("no memory to list the items of this reply")),
-    }
+    listed?;
+    Ok(())
 }
 
 /// Where the bytes from `at` on begin with no whole reply: the fault, with its place in the recording.
