@@ -25,6 +25,7 @@ pub fn round_once(negative: bool, digits: u64, power: i128) -> Result<f64, Float
 }
 
 /// The float of `digits`, with a minus where it is `negative`.
+// kept: one function for this and for the integers' `with_sign` is no plainer: its contract would need a law of negation
 fn signed_float(negative: bool, digits: u64) -> f64
     requires { digits ≤ 2 ^ 53 }
     ensures { HasValue result negative digits 1 }
