@@ -16,9 +16,6 @@ cuts_step m (n ∷ ns) h = ap (λ cs. take (suc m) (n ∷ ns) ∷ cs) (cuts_skip
 pub many_none : {A V : Type 0} (one : A → Result V Fault) (ns : List A) → ns ≡ [] → many_by one ns ≡ Ok []
 many_none one ns e = ap (many_by one) e
 
-pub cut_none : {A V : Type 0} (joined : List A → Result V Fault) (m : ℕ) (ns : List A) → ns ≡ [] → many_by joined (cuts m ns) ≡ Ok []
-cut_none joined m ns e = ap (λ l. many_by joined (cuts m l)) e
-
 module _ {A V : Type 0} (joined : List A → Result V Fault) (m : ℕ) where
   open_cut : (ns : List A) (r : Result V Fault) → 0 < length ns → r ≡ joined (take (suc m) ns)
       → many_by joined (cuts m ns) ≡ and_then r (λ v. onto v (many_by joined (cuts m (drop (suc m) ns))))

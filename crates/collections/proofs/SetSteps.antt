@@ -17,10 +17,6 @@ module _ (alike : Node → Node → Bool) (x : Node) where
   pub seen_next : (k j : ℕ) (n : Node) (ns ms : List Node) → j + 1 ≡ k → ns ≡ n ∷ ms → false ≡ alike n x → seen_in alike x (take k ns) ≡ seen_in alike x (take j ms)
   seen_next k j n ns ms h e t = open_seen k j n ns ms h e ∙ ap (λ b. b || seen_in alike x (take j ms)) (sym t)
 
-  pub seen_none : (k : ℕ) (ns : List Node) → (0 < k → ns ≡ []) → seen_in alike x (take k ns) ≡ false
-  seen_none zero ns e = refl
-  seen_none (suc k) ns e = ap (λ l. seen_in alike x (take (suc k) l)) (e (omega arith))
-
 module _ (alike : Node → Node → Bool) (x : Node) where
   open_key : (k j : ℕ) (n v : Node) (ns ms : List Node) → j + 1 ≡ k → ns ≡ n ∷ v ∷ ms → seen_key alike x (take (2 * k) ns) ≡ (alike n x || seen_key alike x (take (2 * j) ms))
   open_key k j n v ns ms h e =

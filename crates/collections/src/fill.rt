@@ -16,6 +16,9 @@ use crate::table::fill_table;
 use kinds::{Fault, FromRedisValue, Rows, Same};
 use reply::Reply;
 
+// kept: three methods, since each says what its rows are: as a law of `Collection` its proof would have to stand in specs/, with
+// the 500 lines that it rests on
+
 impl<K: Same> SetOf<K> {
     /// Reads the members of a set into the table, and answers how many they are: the first of equal members stays.
     pub fn fill(&self, reply: Reply<'_>, table: &mut [K::Value]) -> Result<usize, Fault>

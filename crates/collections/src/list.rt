@@ -51,6 +51,9 @@ impl<K: Rows> Collection for ListOf<K> {
     }
 }
 
+// kept: the same for lists, sets and maps: one impl for all collections would stand beside the one for all tuples, which is
+// refused as a conflict
+
 impl<K: Rows> FromRedisValue for ListOf<K> {
     type Value = Listed<K::Value>;
 

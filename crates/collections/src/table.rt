@@ -16,6 +16,7 @@ fn count_left<C: Collection>(shape: &C, cursor: Cursor<'_>) -> Result<usize, Fau
     let most = cursor.size();
     let mut rest = cursor;
     let mut count = 0;
+    // kept: a row may be a refusal, so that they are counted one by one
     while let Some(row) = shape.advance(&mut rest) {
         row?;
         count += 1;

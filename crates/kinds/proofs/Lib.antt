@@ -1,4 +1,2 @@
-pub mod RowSteps
-pub mod TupleSteps
 pub mod SameTexts
 pub mod Refusals

@@ -1,5 +1,5 @@
-ghost use Rattle.std.specs.Prelude.{◌≡◌, ◌≤ℤ◌, ◌<◌, ◌^◌, ℕ, ℤ, pos, negsuc, unsigned_abs, Some, None, Option, refl};
-ghost use Rattle.kinds.specs.Numbers.{bounds_from};
+ghost use Rattle.std.specs.Prelude.{◌≡◌, ◌≤ℤ◌, ◌<◌, ◌^◌, ℕ, ℤ, pos, unsigned_abs, Some, None, Option, refl};
+ghost use Rattle.kinds.specs.Numbers.{bounds_from, i64_bounds, i8_bounds, u16_bounds, u64_bounds, u8_bounds};
 ghost use Rattle.kinds.specs.Rows.{byte_by};
 
 use crate::bounds::Bounds;
@@ -48,10 +48,12 @@ pub(crate) fn bounds_of<T: Width>() -> Bounds
     }
 }
 
-impl Width for u8 {
-    ghost LOW = { pos 0 };
+// kept: an impl for each type, as for any trait: one that a macro writes isn't taken
 
-    ghost HIGH = { pos 255 };
+impl Width for u8 {
+    ghost LOW = { u8_bounds.low };
+
+    ghost HIGH = { u8_bounds.high };
 
     ghost narrow = { unsigned_abs };
 
@@ -77,9 +79,9 @@ impl Width for u8 {
 }
 
 impl Width for u16 {
-    ghost LOW = { pos 0 };
+    ghost LOW = { u16_bounds.low };
 
-    ghost HIGH = { pos 65535 };
+    ghost HIGH = { u16_bounds.high };
 
     ghost narrow = { unsigned_abs };
 
@@ -105,9 +107,9 @@ impl Width for u16 {
 }
 
 impl Width for u64 {
-    ghost LOW = { pos 0 };
+    ghost LOW = { u64_bounds.low };
 
-    ghost HIGH = { pos 18446744073709551615 };
+    ghost HIGH = { u64_bounds.high };
 
     ghost narrow = { unsigned_abs };
 
@@ -133,9 +135,9 @@ impl Width for u64 {
 }
 
 impl Width for i8 {
-    ghost LOW = { negsuc 127 };
+    ghost LOW = { i8_bounds.low };
 
-    ghost HIGH = { pos 127 };
+    ghost HIGH = { i8_bounds.high };
 
     ghost narrow = { λ z. z };
 
@@ -161,9 +163,9 @@ impl Width for i8 {
 }
 
 impl Width for i64 {
-    ghost LOW = { negsuc 9223372036854775807 };
+    ghost LOW = { i64_bounds.low };
 
-    ghost HIGH = { pos 9223372036854775807 };
+    ghost HIGH = { i64_bounds.high };
 
     ghost narrow = { λ z. z };
 

@@ -22,6 +22,7 @@ fn in_range(number: Option<i128>, bounds: Bounds) -> Option<i128>
 fn float_or_refuse(reply: Reply<'_>, read: Result<f64, FloatFault>) -> Result<f64, Fault>
     ensures { result ≡ float_or (spot_of (node_of reply.entry)) Ok read }
 {
+    // kept: tried as `map_err`, but what a closure that captures the reply answers could not be proved
     match read {
         Ok(x) => Ok(x),
         Err(fault) => Err(refuse(fault.into(), reply)),
@@ -86,6 +87,7 @@ fn integer_float(number: Option<i64>) -> Option<f64>
 }
 
 /// The float that a reply is.
+// kept: one function for this and for `whole_number` would take its three readers as closures, and say no less
 pub fn float_number(reply: Reply<'_>) -> Result<f64, Fault>
     ensures { result ≡ float_one (node_of reply.entry) }
 {

@@ -51,27 +51,21 @@ fn is_one_and(items: Items<'_>, beside: usize) -> bool
 }
 
 /// The tuple that a reply is.
-pub fn tuple_one<T: Tuple>(tuple: &T, reply: Reply<'_>) -> Result<T::Value, Fault>
-    ensures { result ≡ tuple_one (T.Tuple.beside tuple.now) (T.Tuple.fields tuple.now) (node_of reply.entry) }
-{
-    let inner = reply.unwrapped();
-    if !can_hold(inner.case()) {
-        return Err(refuse(ElementReason::Kind, reply));
-    }
-    let mut items = inner.flat();
-    if !is_one_and(items, tuple.beside_first()) {
-        return Err(refuse(ElementReason::Count, reply));
-    }
-    tuple.read_fields(&mut items)
-}
-
 impl<T: Tuple> FromRedisValue for T {
     type Value = T::Value;
 
     ghost one = { λ k. tuple_one (T.Tuple.beside k) (T.Tuple.fields k) };
 
     fn from_redis_value(&self, reply: Reply<'_>) -> Result<T::Value, Fault> {
-        tuple_one(self, reply)
+        let inner = reply.unwrapped();
+        if !can_hold(inner.case()) {
+            return Err(refuse(ElementReason::Kind, reply));
+        }
+        let mut items = inner.flat();
+        if !is_one_and(items, self.beside_first()) {
+            return Err(refuse(ElementReason::Count, reply));
+        }
+        self.read_fields(&mut items)
     }
 }
 

@@ -7,6 +7,9 @@ use crate::kind::{FromRedisValue, Rows};
 use crate::tuple::{Tuple, tuple_flat, tuple_join};
 use reply::{Items, Reply, Spot};
 
+// kept: an impl for each count of parts, here and wherever tuples are spoken of: no type stands for tuples of any count, and
+// an impl that a macro writes isn't taken
+
 impl<A: FromRedisValue, B: FromRedisValue> Tuple for (A, B) {
     type Value = (A::Value, B::Value);
 

@@ -58,9 +58,6 @@ at_next s i here rest next others w past p =
 narrows : (s : Spot) (i : Items) (here : Reply) (rest : Items) → Searching s i here rest → find_among s (nodes_of rest) ≡ None → Narrows s i here
 narrows s i here rest w none = record { among = w.one; holds = w.holds ∙ ap (or_else (find s (node_of here))) none ∙ or_none (find s (node_of here)); bytes = w.bytes }
 
-pub at_last : (s : Spot) (i : Items) (here : Reply) (rest : Items) → Searching s i here rest → nodes_of rest ≡ [] → Narrows s i here
-at_last s i here rest w none = narrows s i here rest w (ap (find_among s) none)
-
 begins_before : (s : Spot) (rest : Items) → s.at < rest.at → find_among s (nodes_of rest) ≡ None
 unfolding nodes_of wholly_row
 begins_before s rest early = none_before rest.bytes.now rest.pairs rest.at rest.left s rest.inside rest.whole early

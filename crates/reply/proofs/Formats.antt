@@ -1,11 +1,11 @@
 -- The format of a verbatim string.
-use Rattle.std.proofs.Common.{◌≡◌, ℕ, ◌+◌, ◌≤◌, true, false, List, [], ◌∷◌, ◌++◌, length, take, drop, sym, refl, ap, ◌∙◌, append_assoc, arith}
+use Rattle.std.proofs.Common.{◌≡◌, ℕ, ◌+◌, ◌≤◌, true, false, List, ◌∷◌, ◌++◌, length, take, drop, sym, refl, ap, ◌∙◌, append_assoc, arith}
 use Rattle.std.proofs.lemmas.List.{length-append, length-drop, drop-drop, drop_at, take_at}
 use Rattle.resp.specs.declared.case.Case.TheVariants as case
-use Rattle.resp.specs.Reply.{Leaf, Nil, Int, BulkString, SimpleString, Okay, Double, Boolean, VerbatimString, BigNumber, ServerError}
+use Rattle.resp.specs.Reply.{Leaf}
 use Rattle.resp.specs.Grammar as grammar
 use Rattle.resp.specs.Grammar.{header, Leafed, crlf}
-use Rattle.resp.specs.Node.{Node, OneAt, ArrayAt, SetAt, PushAt, MapAt, AttributeAt, PairAt, erase}
+use Rattle.resp.specs.Node.{erase}
 use Rattle.resp.specs.Cases.{case_of, case_of_leaf}
 use Rattle.reply.specs.Parted.{after_lf, format_in, format_of, textual}
 use Rattle.reply.specs.Tree.{view_at, is_read, node_at}
@@ -76,22 +76,3 @@ format_at bs p le h is =
       value = ap (take 3) (sym (drop-drop (after_lf (drop p bs)) p bs) ∙ ap (drop (after_lf (drop p bs))) all ∙ drop_at F.line (F.format ++ F.tail) (after_lf (drop p bs)) (sym long))
           ∙ take_at F.format F.tail 3 F.three ∙ sym F.is ∙ ap format_of (sym L.node);
     }
-
--- what is no verbatim string has none
-pub format_only : (n : Node) → (case_of (erase n) ≡ case.VerbatimString → ⊥) → [] ≡ format_of n
-format_only (OneAt p e Nil) h = refl
-format_only (OneAt p e (Int z)) h = refl
-format_only (OneAt p e (BulkString s)) h = refl
-format_only (OneAt p e (SimpleString c)) h = refl
-format_only (OneAt p e Okay) h = refl
-format_only (OneAt p e (Double c)) h = refl
-format_only (OneAt p e (Boolean v)) h = refl
-format_only (OneAt p e (VerbatimString f t)) h = absurd (h refl)
-format_only (OneAt p e (BigNumber c)) h = refl
-format_only (OneAt p e (ServerError c)) h = refl
-format_only (ArrayAt p e ns) h = refl
-format_only (SetAt p e ns) h = refl
-format_only (PushAt p e ns) h = refl
-format_only (MapAt p e ps) h = refl
-format_only (AttributeAt p e ps n) h = refl
-format_only (PairAt p e k v) h = refl

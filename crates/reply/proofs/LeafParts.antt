@@ -1,18 +1,14 @@
 -- The part of the bytes that the code tells of a leaf.
-use Rattle.std.proofs.Common.{◌≡◌, ℕ, ◌+◌, ◌-◌, ◌^◌, ◌<◌, ◌≤◌, min, Bool, true, false, List, [], ◌∷◌, ◌++◌, length, drop, None, sym, refl, ap, ◌∙◌, subst, arith}
+use Rattle.std.proofs.Common.{◌≡◌, ℕ, ◌+◌, ◌-◌, ◌^◌, ◌<◌, ◌≤◌, min, Bool, true, false, List, [], ◌∷◌, ◌++◌, length, drop, sym, refl, ap, ◌∙◌, subst, arith}
 use Rattle.std.proofs.lemmas.List.{length-append, length-drop}
 use Rattle.std.proofs.lemmas.Bool.{false≢true}
-use Rattle.resp.specs.declared.case.Case.{Case}
-use Rattle.resp.specs.declared.case.Case.TheVariants as case
 use Rattle.resp.specs.Reply.{Leaf, Nil, Int, BulkString, SimpleString, Okay, Double, Boolean, VerbatimString, BigNumber, ServerError}
-use Rattle.numerals.specs.Integer.{integer}
 use Rattle.resp.specs.Grammar.{Leafed}
 use Rattle.resp.specs.Node.{Node, OneAt, ArrayAt, SetAt, PushAt, MapAt, AttributeAt, PairAt, erase}
 use Rattle.resp.specs.Cases.{case_of}
 use Rattle.reply.specs.declared.part.Part.{Part}
 use Rattle.reply.specs.Parts.{start_of}
-use Rattle.reply.specs.Parted.{text_start, part_in, part_of, textual, integer_in}
-use Rattle.reply.specs.Says.{Says}
+use Rattle.reply.specs.Parted.{text_start, part_in, part_of, textual}
 use Rattle.reply.specs.Tree.{view_at, is_read, node_at, Ended}
 use Rattle.resp.specs.Reading.{a_leaf}
 use Rattle.resp.proofs.Outs.{clash}
@@ -98,61 +94,3 @@ text_single bs true p h is = absurd (false≢true (ap textual (pair_case bs true
 
 pub start_at : (bs : List ℕ) (m : Bool) (p : ℕ) → p ≤ length bs → is_read (view_at bs m p) ≡ true → start_of (node_at bs m p) ≡ p
 start_at bs m p le h = sym (ap (λ s. s.at) (spot_is bs m p le h))
-
--- integers
-abbrev ints : Case → ℕ
-ints case.Int = 1
-ints case.Nil = 0
-ints case.BulkString = 0
-ints case.Array = 0
-ints case.SimpleString = 0
-ints case.Okay = 0
-ints case.Map = 0
-ints case.Attribute = 0
-ints case.Set = 0
-ints case.Double = 0
-ints case.Boolean = 0
-ints case.VerbatimString = 0
-ints case.BigNumber = 0
-ints case.Push = 0
-ints case.ServerError = 0
-
-no_int : (k : Case) → ints k ≡ 0 → k ≡ case.Int → ⊥
-no_int k z e = omega (arith, ap ints e)
-
--- the text of an integer is its line
-pub says_int : (n : Node) (x : List ℕ) → case_of (erase n) ≡ case.Int → Says n x → integer x ≡ integer_in n
-says_int (OneAt p e (Int z)) x is says = says
-says_int (OneAt p e Nil) x is says = absurd (no_int _ refl is)
-says_int (OneAt p e (BulkString s)) x is says = absurd (no_int _ refl is)
-says_int (OneAt p e (SimpleString c)) x is says = absurd (no_int _ refl is)
-says_int (OneAt p e Okay) x is says = absurd (no_int _ refl is)
-says_int (OneAt p e (Double c)) x is says = absurd (no_int _ refl is)
-says_int (OneAt p e (Boolean v)) x is says = absurd (no_int _ refl is)
-says_int (OneAt p e (VerbatimString f t)) x is says = absurd (no_int _ refl is)
-says_int (OneAt p e (BigNumber c)) x is says = absurd (no_int _ refl is)
-says_int (OneAt p e (ServerError c)) x is says = absurd (no_int _ refl is)
-says_int (ArrayAt p e ns) x is says = absurd (no_int _ refl is)
-says_int (SetAt p e ns) x is says = absurd (no_int _ refl is)
-says_int (PushAt p e ns) x is says = absurd (no_int _ refl is)
-says_int (MapAt p e ps) x is says = absurd (no_int _ refl is)
-says_int (AttributeAt p e ps n) x is says = absurd (no_int _ refl is)
-says_int (PairAt p e k v) x is says = absurd (no_int _ refl is)
-
-pub int_only : (n : Node) → (case_of (erase n) ≡ case.Int → ⊥) → None ≡ integer_in n
-int_only (OneAt p e Nil) h = refl
-int_only (OneAt p e (Int z)) h = absurd (h refl)
-int_only (OneAt p e (BulkString s)) h = refl
-int_only (OneAt p e (SimpleString c)) h = refl
-int_only (OneAt p e Okay) h = refl
-int_only (OneAt p e (Double c)) h = refl
-int_only (OneAt p e (Boolean v)) h = refl
-int_only (OneAt p e (VerbatimString f t)) h = refl
-int_only (OneAt p e (BigNumber c)) h = refl
-int_only (OneAt p e (ServerError c)) h = refl
-int_only (ArrayAt p e ns) h = refl
-int_only (SetAt p e ns) h = refl
-int_only (PushAt p e ns) h = refl
-int_only (MapAt p e ps) h = refl
-int_only (AttributeAt p e ps n) h = refl
-int_only (PairAt p e k v) h = refl

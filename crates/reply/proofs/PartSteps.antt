@@ -18,13 +18,6 @@ lf_within (b ∷ bs) = go (eqb b 10) (lf_within bs)
     go true h = omega arith
     go false h = omega arith
 
-pub lf_some : (b : ℕ) (bs : List ℕ) → 0 < after_lf (b ∷ bs)
-lf_some b bs = go (eqb b 10)
-  where
-    go : (t : Bool) → 0 < cond t 1 (suc (after_lf bs))
-    go true = omega arith
-    go false = omega arith
-
 -- a line's LF is its first
 lf_line : (c rest : List ℕ) → Clean c → after_lf (c ++ (13 ∷ 10 ∷ rest)) ≡ length c + 2
 lf_line [] rest h = refl

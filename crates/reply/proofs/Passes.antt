@@ -1,8 +1,8 @@
 -- Items passed one after another.
-use Rattle.std.proofs.Common.{◌≡◌, ℕ, zero, suc, ◌+◌, ◌-◌, ◌*◌, ◌^◌, ◌<◌, ◌≤◌, min, Bool, true, false, cond, ltb, List, [], ◌∷◌, ◌++◌, length, take, drop, Some, None, Option, sym, refl, ap, ◌∙◌, subst, append_assoc, arith}
+use Rattle.std.proofs.Common.{◌≡◌, ℕ, zero, suc, ◌+◌, ◌-◌, ◌*◌, ◌^◌, ◌<◌, ◌≤◌, min, Bool, true, false, cond, List, [], ◌∷◌, ◌++◌, length, take, drop, Some, None, Option, sym, refl, ap, ◌∙◌, subst, append_assoc, arith}
 use Rattle.std.proofs.lemmas.List.{length-append, take_at}
-use Rattle.std.proofs.lemmas.Bool.{lt-ltb, ltb-true}
-use Rattle.numerals.specs.Plain.{Plain, value, capped}
+use Rattle.std.proofs.lemmas.Bool.{lt-ltb}
+use Rattle.numerals.specs.Plain.{Plain, value}
 use Rattle.resp.specs.Out.{Out, ok, and_then, map_out}
 use Rattle.resp.specs.Grammar as grammar
 use Rattle.resp.specs.Grammar.{Clean, Header, header, Leafed, crlf}
@@ -18,40 +18,15 @@ use Rattle.resp.proofs.Heads.{Headed, opening_agrees}
 use Rattle.reply.specs.declared.open.Row.{Row}
 use Rattle.reply.specs.declared.pass.Passed.{Passed}
 use Rattle.reply.specs.Parted.{after_lf}
-use Rattle.reply.specs.Pass.{short, counted, Small, tells, told_count, followed_by, passed_by, passed_of}
+use Rattle.reply.specs.Pass.{short, counted, tells, told_count, followed_by, passed_by, passed_of}
 use Rattle.reply.specs.Opened.{row_from}
 use Rattle.reply.specs.Tree.{view, view_at, row_at, is_read, node_at, wholly, RowEnded}
 use Rattle.reply.proofs.Rows.{read_ok, node_is}
 use Rattle.reply.proofs.Views.{level, single}
 use Rattle.reply.proofs.Grows.{grows, grows_items}
-use Rattle.reply.proofs.PartSteps.{lf_header, lf_some}
+use Rattle.reply.proofs.PartSteps.{lf_header}
 use Rattle.reply.proofs.Opening.{items_in_turn, items_and_one, named_items, front, row_is, Rowed}
-use Rattle.reply.proofs.Bounds.{reply_ends, row_ends, same_end}
-
--- any item is passed by some bytes of it
-pub pass_within : (l : List ℕ) → (passed_of l).len ≤ length l
-pass_within [] = omega arith
-pass_within (b ∷ l) = omega arith
-
-pub pass_some : (l : List ℕ) → 0 < length l → 0 < (passed_of l).len
-pass_some [] lt = absurd (omega arith)
-pass_some (b ∷ l) lt = omega (arith, lf_some b l)
-
--- a count that was told fits
-short_small : (o : Option ℕ) → Small (short o)
-short_small None = tt
-short_small (Some n) = go (ltb n (2 ^ 32)) refl
-  where
-    go : (t : Bool) → ltb n (2 ^ 32) ≡ t → Small (cond t (Some n) None)
-    go true e = ltb-true n (2 ^ 32) e
-    go false e = tt
-
-pub told_small : (b : ℕ) (c : List ℕ) → Small (told_count b c)
-told_small b c = go (tells b)
-  where
-    go : (t : Bool) → Small (cond t (counted c) None)
-    go true = short_small (capped c)
-    go false = tt
+use Rattle.reply.proofs.Bounds.{reply_ends, row_ends}
 
 -- the number of a line
 count_is : (n : ℕ) (c : List ℕ) → Plain n c → n < 2 ^ 32 → counted c ≡ Some n
@@ -181,12 +156,6 @@ pass_start bs p k le h =
     let (e, in', is) = row_ends bs false p k ns rest le o in
     let row : RowEnded bs false p k e = record { trees = ns; reads = o ∙ ap (ok ns) is; inside = in' } in
     record { end = e; ended = row; inside = le; row = row }
-
-pub pass_done : (bs : List ℕ) (p k q : ℕ) → Passing bs p k q 0 → RowEnded bs false p k q
-pass_done bs p k q w =
-    let reads = w.row.reads in
-    let same : drop q bs ≡ drop w.end bs = cc in
-    subst (RowEnded bs false p k) (sym (same_end bs q w.end w.inside w.row.inside same)) w.ended
 
 pub pass_never : (bs : List ℕ) (p k q n : ℕ) → Passing bs p k q n → 0 < n → length bs ≤ q → ⊥
 pass_never bs p k q n w some le = let room = row_room bs q n w.row.trees (drop w.end bs) w.inside w.row.reads in omega arith

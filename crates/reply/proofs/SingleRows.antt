@@ -1,6 +1,6 @@
 -- A row of one view, and a row of pairs as a row of replies.
-use Rattle.std.proofs.Common.{◌≡◌, ℕ, zero, suc, ◌+◌, ◌^◌, ◌<◌, ◌≤◌, Bool, true, false, List, [], ◌∷◌, length, drop, sym, ap, ◌∙◌, subst, arith}
-use Rattle.resp.specs.Limits.{deepest, items_most}
+use Rattle.std.proofs.Common.{◌≡◌, ℕ, zero, suc, ◌+◌, ◌≤◌, Bool, true, false, List, [], ◌∷◌, length, drop, sym, ap, ◌∙◌, subst}
+use Rattle.resp.specs.Limits.{deepest}
 use Rattle.resp.specs.Out.{ok, and_then, map_out}
 use Rattle.resp.specs.Reading.{items, pair}
 use Rattle.resp.specs.Node.{Node, reading, offset}
@@ -58,10 +58,6 @@ singly bs true p n le h =
       room = row_room bs p (singles true n) _ rest le t;
       ends = λ e r. let reads = r.reads in let same : rest ≡ drop e bs = cc in record { trees = ns; reads = o ∙ ap (ok ns) same; inside = r.inside };
     }
-
-pub singles_few : (m : Bool) (n : ℕ) → n ≤ items_most → singles m n < 2 ^ 64
-singles_few true n few = omega arith
-singles_few false n few = omega arith
 
 -- a view of the key ends where the key does
 pub key_ended : (k s : Reply) (e : ℕ) → k.bytes ≡ s.bytes → k.at ≡ s.at → k.pair ≡ false → Ended k.bytes.now k.pair k.at e → Ended s.bytes.now false s.at e

@@ -11,6 +11,7 @@ fn replies_end(bytes: &[u8], at: usize, replies: usize) -> usize
 {
     let mut end = at;
     let mut left = replies;
+    // kept: each item opens more that is left, so that no range and no iterator knows how many come
     while left > 0 {
         if end >= bytes.len() {
             return end;

@@ -79,6 +79,7 @@ impl fmt::Display for Indent {
     }
 }
 
+// kept: not a view's text, which leaves out the format of a verbatim string
 /// Where the second line of a reply starts, or 1 past its first byte if it has none that counts.
 fn content_start(reply: &[u8]) -> usize {
     match reply {
@@ -173,6 +174,7 @@ pub fn recording(rt: &HostRuntime, bytes: &[u8]) -> anyhow::Result<Survey>
     let mut notes = Vec::new(rt.alloc());
     let mut at = 0;
     let mut replies = 0u64;
+    // kept: each reply says where the next begins, so that no iterator knows it
     while at < bytes.len() {
         match walk(&bytes[at..]) {
             Ok(length) => {

@@ -12,6 +12,7 @@ use std::fmt;
 pub struct Survey {
     pub replies: u64,
     pub bytes: usize,
+    // kept: not the error of a `Result`, as what came before it counts too
     pub fault: Option<WireFault>,
 }
 

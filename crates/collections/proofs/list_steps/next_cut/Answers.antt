@@ -1,12 +1,7 @@
 use Rattle.std.proofs.Common.{◌<◌, length, arith}
 use Rattle.reply.specs.View.{nodes_of}
-use Rattle.reply.proofs.Arounds.{no_more}
-use Rattle.collections.proofs.CutSteps.{cut_none, cut_step, cut_falls}
+use Rattle.collections.proofs.CutSteps.{cut_step, cut_falls}
 use Rattle.collections.proofs.list_steps.next_cut.Goals as goal
-
-pub returns-then-len-eq0 : goal.returns-then-len-eq0
-returns-then-len-eq0 g c =
-    record { step = cut_none (g.K.Rows.joined c.args.kind.now c.args.first) (g.K.Rows.more c.args.kind.now) (nodes_of c.args.rest.now) (no_more c.args.rest.now (omega (arith, c.len.ensures.left))); falls = tt }
 
 pub returns : goal.returns
 returns g c =

@@ -1,7 +1,6 @@
 use Rattle.std.proofs.Common.{sym, ◌∙◌}
-use Rattle.std.specs.Iterator.Adapters.{take_count, take_source}
-use Rattle.reply.specs.View.{node_of, nodes_of}
-use Rattle.collections.proofs.SetSteps.{seen_here, seen_next, seen_none}
+use Rattle.reply.specs.View.{node_of}
+use Rattle.collections.proofs.SetSteps.{seen_here, seen_next}
 use Rattle.collections.proofs.set_steps.is_seen.Goals as goal
 
 pub returns-then-is_same : goal.returns-then-is_same
@@ -13,8 +12,3 @@ pub loop-earlier-preserved : goal.loop-earlier-preserved
 loop-earlier-preserved g c =
     c.loop-earlier.invariant
     ∙ seen_next (g.K.Same.alike c.args.kind.now) (node_of c.args.reply) _ _ (node_of c.in-Some.earlier) _ _ c.in-Some.ensures.steps.1 c.in-Some.ensures.steps.0.items (sym c.if-is_same.false ∙ c.is_same.ensures)
-
-pub returns : goal.returns
-returns g c =
-    sym (c.loop-earlier.invariant
-    ∙ seen_none (g.K.Same.alike c.args.kind.now) (node_of c.args.reply) (take_count c.loop-earlier.earlier-iterator) (nodes_of (take_source c.loop-earlier.earlier-iterator)) (λ some. (c.in-None.ensures.steps some).items))

@@ -2,7 +2,6 @@ use Rattle.std.proofs.Common.{false, refl, ap, ◌∙◌}
 use Rattle.reply.specs.Parts.{flat_of}
 use Rattle.reply.specs.View.{node_of, nodes_of}
 use Rattle.reply.specs.Tree.{wholly, wholly_row, nodes_at}
-use Rattle.reply.proofs.SingleRows.{singles_few}
 use Rattle.reply.proofs.Views.{pair_flat, single}
 use Rattle.reply.proofs.view.Reply.flat.Goals as goal
 
@@ -13,13 +12,6 @@ invariant_of-result c = record { whole = (pair_flat c.args.self.bytes.now c.args
 pub returns-then-self : goal.returns-then-self
 unfolding node_of nodes_of wholly
 returns-then-self c = record { trees = (pair_flat c.args.self.bytes.now c.args.self.pair c.args.self.at c.if-self.true c.args.self.whole).1; bytes = refl }
-
-pub singles-requires : goal.singles-requires
-singles-requires c = let few = c.below-row.ensures.spread.few in singles_few c.below-row.result.pairs c.below-row.result.left few
-
-pub invariant_of-result-2 : goal.invariant_of-result-2
-invariant_of-result-2 c =
-    record { whole = ap (wholly_row c.args.self.bytes.now false c.below-row.result.at) c.singles.ensures ∙ c.below-row.ensures.spread.singly; inside = c.below-row.ensures.opened.inside }
 
 pub returns : goal.returns
 unfolding node_of nodes_of

@@ -2,13 +2,8 @@ use Rattle.std.proofs.Common.{refl, sym, ap, ◌∙◌, subst}
 use Rattle.reply.specs.Parts.{is_attribute, unwrapped}
 use Rattle.reply.specs.View.{node_of}
 use Rattle.reply.specs.Tree.{wholly, RowEnded}
-use Rattle.reply.proofs.Opening.{others}
 use Rattle.reply.proofs.Views.{attribute_single, single}
 use Rattle.reply.proofs.view.Reply.unwrapped.Goals as goal
-
-pub returns-then-not-is_attribute : goal.returns-then-not-is_attribute
-returns-then-not-is_attribute c =
-    record { tree = sym (others (node_of c.args.self) (sym c.is_attribute.ensures ∙ c.if-not-is_attribute.true)); bytes = refl }
 
 pub below-requires : goal.below-requires
 unfolding node_of wholly
