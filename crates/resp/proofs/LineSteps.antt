@@ -17,12 +17,6 @@ Left bs at n =
 pub byte_at : (bs : List ℕ) (from n : ℕ) → get_or (slice_range bs from (length bs)) n 0 ≡ get_or bs (from + n) 0
 byte_at bs from n = ap (λ l. get_or l n 0) (take_rest bs from) ∙ get_or-drop from bs n 0
 
-pub first_at : (bs : List ℕ) (from : ℕ) → get_or (slice_range bs from (length bs)) 0 0 ≡ get_or bs from 0
-first_at bs from = byte_at bs from 0 ∙ ap (λ k. get_or bs k 0) (let z : from + 0 ≡ from = omega arith in z)
-
-pub rest_length : (bs : List ℕ) (from : ℕ) → length (slice_range bs from (length bs)) ≡ length bs - from
-rest_length bs from = ap length (take_rest bs from) ∙ length-drop from bs
-
 line_cr : (s : List ℕ) (room b : ℕ) (bs : List ℕ) → b ≡ 13 → line s room (b ∷ bs) ≡ closing s bs
 line_cr s zero b bs e = rw e
 line_cr s (suc n) b bs e = rw e
