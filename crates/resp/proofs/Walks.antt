@@ -184,15 +184,12 @@ push_some bs d at v t is =
     go (suc d) l h rest o e = let (x, split, w) = opening_agrees.sound l h rest o in counted h x w e
 
 -- what `named_end` answered
-apart : (end : ℕ) (f : WireFault) → ◌≡◌ {A = Result ℕ WireFault} (Ok end) (Err f) → ⊥
-apart end f e = let z : ◌≡◌ {A = ℕ} 0 1 = cc in omega arith
-
 named_ok : (s : Bool) (at one end : ℕ) → Ok end ≡ named_end s at one → (s ≡ true) × (end ≡ one)
 named_ok true at one end e = (refl, cc)
-named_ok false at one end e = absurd (apart end _ e)
+named_ok false at one end e = absurd (cc)
 
 named_err : (s : Bool) (at one : ℕ) (f : WireFault) → Err f ≡ named_end s at one → (s ≡ false) × (record { reason = Content; place = at } ≡ f)
-named_err true at one f e = absurd (apart one f (sym e))
+named_err true at one f e = absurd (cc)
 named_err false at one f e = (refl, cc)
 
 pub rest_push : (bs : List ℕ) (d at : ℕ) (v : Opening) (one next : ℕ) → Opened bs d at (Ok v) → v.named ≡ true → Walked bs (d - 1) v.start (Ok one)
