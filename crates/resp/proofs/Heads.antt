@@ -12,7 +12,7 @@ use Rattle.resp.specs.Out.{Out, ok, and_then, map_out}
 use Rattle.resp.specs.Reply.{Leaf, Nil, Int, BulkString, Okay, Double, Boolean, VerbatimString, BigNumber, ServerError}
 use Rattle.resp.specs.Grammar.{Line, Header, header, Leafed, a_null, a_null_bulk, a_null_array, an_integer, a_true, a_false, a_double, a_big_number, an_okay, a_simple_string, a_simple_error, a_bulk_string, a_bulk_error, a_verbatim_string, crlf}
 use Rattle.resp.specs.Reading.{kind_of, lined, integer_of, null_leaf, boolean_leaf, double_leaf, big_number_leaf, spells_ok, simple_leaf, text, text_line, size, size_or_null, body, is_verbatim, verbatim, bulk, Head, a_leaf, of_array, of_set, of_push, of_map, of_attribute, array_head, pushed, head, begun, opening}
-use Rattle.resp.proofs.Outs.{clash, some_clash, and_then_ok, map_out_ok, by_test}
+use Rattle.resp.proofs.Outs.{clash, and_then_ok, map_out_ok, by_test}
 use Rattle.resp.proofs.Lists.{Agrees, joined}
 use Rattle.resp.proofs.Openings.{lined_sound, lined_complete, text_sound, text_complete, text_line_sound, text_line_complete, size_sound, size_complete, NullOr, null_sound, null_complete, body_sound, body_complete}
 use Rattle.numerals.proofs.IntegerRules.{integers_agree}
@@ -54,33 +54,33 @@ integer_leaf c l line e = go (integer c) refl e
   where
     go : (o : Option ℤ) → integer c ≡ o → integer_of o ≡ Some l → Leafed l (58 ∷ (c ++ crlf))
     go (Some z) i h = let is : Int z ≡ l = cc in subst (λ m. Leafed m (58 ∷ (c ++ crlf))) is (an_integer line ((integers_agree z c).0 i))
-    go None i h = absurd (some_clash h)
+    go None i h = absurd (cc)
 
 null_leaf_lem : (c : List ℕ) (l : Leaf) → null_leaf c ≡ Some l → Leafed l (95 ∷ (c ++ crlf))
 null_leaf_lem [] l e = let is : Nil ≡ l = cc in subst (λ m. Leafed m (95 ∷ crlf)) is a_null
-null_leaf_lem (b ∷ c) l e = absurd (some_clash e)
+null_leaf_lem (b ∷ c) l e = absurd (cc)
 
 boolean_leaf_lem : (c : List ℕ) (l : Leaf) → boolean_leaf c ≡ Some l → Leafed l (35 ∷ (c ++ crlf))
-boolean_leaf_lem [] l e = absurd (some_clash e)
+boolean_leaf_lem [] l e = absurd (cc)
 boolean_leaf_lem (b ∷ []) l e =
     by_test (eqb b 116) _ _ _ e
     (λ t h. let is : Boolean true ≡ l = cc in subst (λ m. Leafed m (35 ∷ b ∷ crlf)) is (subst (λ y. Leafed (Boolean true) (35 ∷ y ∷ crlf)) (sym (eqb-true b 116 t)) a_true))
     (λ t h. by_test (eqb b 102) _ _ _ h
     (λ u i. let is : Boolean false ≡ l = cc in subst (λ m. Leafed m (35 ∷ b ∷ crlf)) is (subst (λ y. Leafed (Boolean false) (35 ∷ y ∷ crlf)) (sym (eqb-true b 102 u)) a_false))
-    (λ u i. absurd (some_clash i)))
-boolean_leaf_lem (b ∷ d ∷ c) l e = absurd (some_clash e)
+    (λ u i. absurd (cc)))
+boolean_leaf_lem (b ∷ d ∷ c) l e = absurd (cc)
 
 double_leaf_lem : (c : List ℕ) (l : Leaf) → Line c → double_leaf c ≡ Some l → Leafed l (44 ∷ (c ++ crlf))
 double_leaf_lem c l line e =
     by_test (is_double c) _ _ _ e
     (λ t h. let is : Double c ≡ l = cc in subst (λ m. Leafed m (44 ∷ (c ++ crlf))) is (a_double line ((doubles_agree c).0 t)))
-    (λ t h. absurd (some_clash h))
+    (λ t h. absurd (cc))
 
 big_leaf : (c : List ℕ) (l : Leaf) → Line c → big_number_leaf c ≡ Some l → Leafed l (40 ∷ (c ++ crlf))
 big_leaf c l line e =
     by_test (is_big_number c) _ _ _ e
     (λ t h. let is : BigNumber c ≡ l = cc in subst (λ m. Leafed m (40 ∷ (c ++ crlf))) is (a_big_number line ((big_numbers_agree c).0 t)))
-    (λ t h. absurd (some_clash h))
+    (λ t h. absurd (cc))
 
 ok_is : (c : List ℕ) → spells_ok c ≡ true → c ≡ 79 ∷ 75 ∷ []
 ok_is [] h = absurd (false≢true h)
@@ -235,7 +235,7 @@ kind_is b k e =
     tried 36 kind.BulkString _ refl e λ e. tried 42 kind.Array _ refl e λ e. tried 95 kind.Null _ refl e λ e.
     tried 35 kind.Boolean _ refl e λ e. tried 44 kind.Double _ refl e λ e. tried 40 kind.BigNumber _ refl e λ e.
     tried 33 kind.BulkError _ refl e λ e. tried 61 kind.VerbatimString _ refl e λ e. tried 37 kind.Map _ refl e λ e.
-    tried 124 kind.Attribute _ refl e λ e. tried 126 kind.Set _ refl e λ e. tried 62 kind.Push _ refl e λ e. absurd (some_clash e)
+    tried 124 kind.Attribute _ refl e λ e. tried 126 kind.Set _ refl e λ e. tried 62 kind.Push _ refl e λ e. absurd (cc)
   where
     tried : (m : ℕ) (j : Kind) (y : Option Kind) → code_of j ≡ m → cond (eqb b m) (Some j) y ≡ Some k → (y ≡ Some k → b ≡ code_of k) → b ≡ code_of k
     tried m j y is e next = by_test (eqb b m) _ _ _ e (λ t h. let same : j ≡ k = cc in eqb-true b m t ∙ sym is ∙ ap code_of same) (λ t h. next h)

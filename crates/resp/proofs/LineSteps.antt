@@ -17,25 +17,12 @@ Left bs at n =
 pub byte_at : (bs : List ℕ) (from n : ℕ) → get_or (slice_range bs from (length bs)) n 0 ≡ get_or bs (from + n) 0
 byte_at bs from n = ap (λ l. get_or l n 0) (take_rest bs from) ∙ get_or-drop from bs n 0
 
-pub first_at : (bs : List ℕ) (from : ℕ) → get_or (slice_range bs from (length bs)) 0 0 ≡ get_or bs from 0
-first_at bs from = byte_at bs from 0 ∙ ap (λ k. get_or bs k 0) (let z : from + 0 ≡ from = omega arith in z)
-
-pub rest_length : (bs : List ℕ) (from : ℕ) → length (slice_range bs from (length bs)) ≡ length bs - from
-rest_length bs from = ap length (take_rest bs from) ∙ length-drop from bs
-
-map_out_id : {A : Type 0} (o : Out A) → map_out (λ a. a) o ≡ o
-map_out_id (ok a rest) = refl
-map_out_id (fault k at) = refl
-
 line_cr : (s : List ℕ) (room b : ℕ) (bs : List ℕ) → b ≡ 13 → line s room (b ∷ bs) ≡ closing s bs
 line_cr s zero b bs e = rw e
 line_cr s (suc n) b bs e = rw e
 
 line_on : (s : List ℕ) (room b : ℕ) (bs : List ℕ) → (b ≡ 13 → ⊥) → (b ≡ 10 → ⊥) → line s (suc room) (b ∷ bs) ≡ map_out (λ c. b ∷ c) (line s room bs)
 line_on s room b bs p q = rw (ne_eqb b 13 p, ne_eqb b 10 q)
-
-pub left_none : (bs : List ℕ) (at : ℕ) → Left bs at 0
-left_none bs at = let z : at + 1 + 0 ≡ at + 1 = omega arith in rw z (sym (map_out_id _))
 
 push_on : (x : List ℕ) (b : ℕ) (o : Out (List ℕ)) → map_out (λ c. x ++ c) (map_out (λ c. b ∷ c) o) ≡ map_out (λ c. (x ++ (b ∷ [])) ++ c) o
 push_on x b (ok c rest) = ap (λ l. ok l rest) (sym (append_assoc x (b ∷ []) c))

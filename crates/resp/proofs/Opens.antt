@@ -1,12 +1,11 @@
 -- How an item is opened, and whether it is a string.
-use Rattle.std.proofs.Common.{◌≡◌, ℕ, zero, suc, ◌+◌, ◌<◌, Bool, true, false, cond, eqb, leb, List, [], ◌∷◌, ◌++◌, length, get_or, drop, Ok, sym, refl, ap, ◌∙◌, append_assoc, arith}
+use Rattle.std.proofs.Common.{◌≡◌, ℕ, zero, suc, ◌+◌, ◌<◌, Bool, true, false, cond, eqb, leb, List, [], ◌∷◌, ◌++◌, length, get_or, drop, sym, refl, ap, ◌∙◌, append_assoc, arith}
 use Rattle.std.specs.Int.{is_in_range}
 use Rattle.std.specs.Str.{all_ascii_digits}
 use Rattle.std.proofs.lemmas.List.{drop_more, drop_all}
 use Rattle.std.proofs.lemmas.Bool.{and_parts, false≢true, leb-true, leb-false, ne_eqb}
 use Rattle.numerals.specs.Plain.{plain}
 use Rattle.resp.specs.declared.fault.WireReason.TheVariants.{NotWhole, Limit}
-use Rattle.resp.specs.declared.opening.Opening.{Opening}
 use Rattle.resp.specs.Limits.{items_most}
 use Rattle.resp.specs.Out.{Out, ok, fault, map_out}
 use Rattle.resp.specs.Reply.{Leaf, is_string}
@@ -14,7 +13,7 @@ use Rattle.resp.specs.Grammar as grammar
 use Rattle.resp.specs.Grammar.{header, Leafed, crlf}
 use Rattle.resp.specs.Reading.{kind_of, begun, opening, Head, a_leaf, of_array, of_set, of_push, of_map, of_attribute, Form, leaf, array, set, push, map, attribute, items, pair, named, parts, form}
 use Rattle.resp.specs.Node.{Node, is_string_node, knit, ended, reading}
-use Rattle.resp.specs.Told.{Told, Opens, opening_at, opening_from, starts_string, no_minus}
+use Rattle.resp.specs.Told.{opening_at, opening_from, starts_string, no_minus}
 use Rattle.resp.proofs.Outs.{clash, and_then_ok, map_out_ok}
 use Rattle.resp.proofs.Heads.{Headed, opening_agrees}
 
@@ -37,12 +36,6 @@ opening_from_lem d bs at = by (leb (length bs) at) refl
         → cond t (fault NotWhole (drop (length bs) bs)) (cond (eqb d 0) (fault Limit (drop at bs)) (begun (kind_of (get_or bs at 0)) (drop at bs) (drop (at + 1) bs))) ≡ opening_at d (drop at bs)
     by true e = ap (fault NotWhole) (drop_all (length bs) bs (omega arith)) ∙ sym (ap (opening_at d) (drop_all at bs (leb-true _ _ e)) ∙ none_at d)
     by false e = there (leb-false _ _ e) d
-
--- where levels are left
-pub opened_deep : (bs : List ℕ) (d : ℕ) (l : List ℕ) (v : Opening) → Told (Opens bs) bs (opening_at d l) (Ok v) → d ≡ 0 → ⊥
-opened_deep bs zero [] v t is = t
-opened_deep bs zero (b ∷ l) v t is = t
-opened_deep bs (suc d) l v t is = omega arith
 
 -- strings by their first bytes
 abbrev is_string_head : Head → Bool

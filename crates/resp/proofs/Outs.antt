@@ -1,14 +1,11 @@
 -- Readers taken apart.
-use Rattle.std.proofs.Common.{◌≡◌, ℕ, Bool, true, false, cond, List, Some, None, Option, refl, arith}
+use Rattle.std.proofs.Common.{◌≡◌, ℕ, Bool, true, false, cond, List, Some, None, Option, refl}
 use Rattle.resp.specs.declared.fault.WireReason.{WireReason}
 use Rattle.resp.specs.Out.{Out, ok, fault, and_then, map_out}
 use Rattle.resp.specs.Reading.{or_content}
 
 pub clash : {A : Type 0} {k : WireReason} {at rest : List ℕ} {a : A} → fault k at ≡ ok a rest → ⊥
-clash e = let z : ◌≡◌ {A = ℕ} 0 1 = cc in omega arith
-
-pub some_clash : {A : Type 0} {a : A} → None ≡ Some a → ⊥
-some_clash e = let z : ◌≡◌ {A = ℕ} 0 1 = cc in omega arith
+clash e = cc
 
 pub and_then_ok : {A B : Type 0} (o : Out A) (k : A → List ℕ → Out B) (b : B) (rest : List ℕ) → and_then o k ≡ ok b rest
     → (a : A) × (more : List ℕ) × (o ≡ ok a more) × (k a more ≡ ok b rest)

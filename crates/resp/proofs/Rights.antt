@@ -4,14 +4,12 @@ use Rattle.std.proofs.lemmas.List.{length-append, length-drop, length-take-le, t
 use Rattle.resp.specs.declared.fault.WireReason.{WireReason}
 use Rattle.resp.specs.declared.fault.WireReason.TheVariants.{NotWhole}
 use Rattle.resp.specs.declared.fault.WireFault.{WireFault}
-use Rattle.resp.specs.declared.opening.Opening.{Opening}
 use Rattle.resp.specs.Limits.{deepest}
-use Rattle.resp.specs.Reading.{Head}
 use Rattle.resp.specs.Out.{Out, ok, fault}
 use Rattle.resp.specs.Reply.{Reply}
 use Rattle.resp.specs.Grammar.{Whole}
 use Rattle.resp.specs.Node.{Node, erase, reading, offset}
-use Rattle.resp.specs.Told.{Told, Ends, Faulty, Opens, items_in, is_push, opened_as}
+use Rattle.resp.specs.Told.{Told, Ends, Faulty}
 use Rattle.resp.specs.Answer.{located, answered, answer, Begins, Found, Refused, Right}
 use Rattle.resp.proofs.Outs.{clash}
 use Rattle.resp.proofs.Unique.{reads_a_front, reads_all, one_front, lasts, fault_plainly, plainly_fault}
@@ -22,14 +20,6 @@ place_is bs rest e le is = let l : length rest ≡ length bs - e = ap length is 
 
 fault_is : (bs : List ℕ) (k : WireReason) (at : List ℕ) (f : WireFault) → Faulty bs k at f → f ≡ record { reason = k; place = length bs - length at }
 fault_is bs k at f h = ap₂ (λ r p. record { reason = r; place = p }) h.0 (place_is bs at f.place h.1 h.2)
-
-pub told_opened : (bs : List ℕ) (o : Out Head) (r : Result Opening WireFault) → Told (Opens bs) bs o r → r ≡ opened_as bs o
-told_opened bs (ok h rest) (Ok v) w =
-    ap Ok (ap₂ (λ i n. record { items = i; named = n; start = v.start }) w.0 w.1)
-    ∙ ap (λ s. Ok (record { items = items_in h; named = is_push h; start = s })) (place_is bs rest v.start w.2 w.3)
-told_opened bs (ok h rest) (Err f) w = absurd w
-told_opened bs (fault k at) (Ok v) w = absurd w
-told_opened bs (fault k at) (Err f) w = ap Err (fault_is bs k at f w)
 
 pub told_answer : {A : Type 0} (bs : List ℕ) (o : Out A) (r : Result ℕ WireFault) → Told (Ends bs) bs o r → r ≡ answered bs o
 told_answer bs (ok a rest) (Ok e) h = ap Ok (place_is bs rest e h.0 h.1)

@@ -8,7 +8,6 @@ use Rattle.resp.specs.Reply.{Reply}
 use Rattle.resp.specs.Grammar.{Whole}
 use Rattle.resp.specs.Reading.{items}
 use Rattle.resp.specs.Node.{Node, erase, reading}
-use Rattle.resp.specs.Answer.{number}
 use Rattle.resp.specs.Theorems.{ReadsOnly, ReadsAll, ReadsAFront, OneFront, OneSplit, Stays, Lasts}
 use Rattle.resp.proofs.Outs.{clash, map_out_ok}
 use Rattle.resp.proofs.Lists.{items_complete}
@@ -79,20 +78,16 @@ stays at d bs t rest more e =
     subst (λ o. Extends o (plainly d (bs ++ more)) more) (read_plainly at d bs t rest e) (firm_plainly d bs more) in
     plainly_read at d (bs ++ more) (erase t) (rest ++ more) h
 
--- two reasons are told apart by their numbers
-other : {k : WireReason} → k ≡ NotWhole → number k ≡ 10
-other e = ap number e
-
 -- what was kept of a fault's reason
 kept_place : (k : WireReason) (at : List ℕ) (P : Type 0) → Kept k at P → k ≡ NotWhole → at ≡ []
 kept_place NotWhole at P h is = h
-kept_place UnknownKind at P h is = absurd (omega (arith, other is))
-kept_place BrokenLine at P h is = absurd (omega (arith, other is))
-kept_place LongLine at P h is = absurd (omega (arith, other is))
-kept_place Content at P h is = absurd (omega (arith, other is))
-kept_place Limit at P h is = absurd (omega (arith, other is))
-kept_place NotClosed at P h is = absurd (omega (arith, other is))
-kept_place NotUtf8 at P h is = absurd (omega (arith, other is))
+kept_place UnknownKind at P h is = absurd (cc)
+kept_place BrokenLine at P h is = absurd (cc)
+kept_place LongLine at P h is = absurd (cc)
+kept_place Content at P h is = absurd (cc)
+kept_place Limit at P h is = absurd (cc)
+kept_place NotClosed at P h is = absurd (cc)
+kept_place NotUtf8 at P h is = absurd (cc)
 
 kept_fact : (k : WireReason) (at : List ℕ) {P : Type 0} → Kept k at P → k ≢ NotWhole → P
 kept_fact NotWhole at h not = absurd (not refl)

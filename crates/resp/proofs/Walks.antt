@@ -11,7 +11,7 @@ use Rattle.resp.specs.Node.{Node, is_string_node, ended, reading, offset}
 use Rattle.resp.specs.Told.{Told, Ends, Opens, items_in, is_push, opening_at, opening_from, named_end, starts_string}
 use Rattle.resp.proofs.Outs.{clash}
 use Rattle.resp.proofs.Tolds.{told_ok, told_err}
-use Rattle.resp.proofs.Opens.{opening_from_lem, opened_deep, read_string}
+use Rattle.resp.proofs.Opens.{opening_from_lem, read_string}
 use Rattle.resp.proofs.Heads.{Headed, opening_agrees}
 
 -- where a reader ends, and not what it read
@@ -140,10 +140,6 @@ walk_shut bs d at f t =
     let e = reading_shut (offset (length bs)) d (drop at bs) k place o in
     told_skim bs (read_at bs d at) (Err f) (rw e h)
 
--- an item that was opened has a level left
-pub deep_enough : (bs : List ℕ) (d at : ℕ) (v : Opening) → Opened bs d at (Ok v) → 1 ≤ d
-deep_enough bs d at v t = let some : d ≡ 0 → ⊥ = opened_deep bs d (drop at bs) v (opened_at bs d at (Ok v) t) in omega arith
-
 -- what is left of a reply after i of so many items
 pub record Rest (bs : List ℕ) (at d count i end : ℕ) : Type 0 where
   pub within : end ≤ length bs
@@ -188,15 +184,12 @@ push_some bs d at v t is =
     go (suc d) l h rest o e = let (x, split, w) = opening_agrees.sound l h rest o in counted h x w e
 
 -- what `named_end` answered
-apart : (end : ℕ) (f : WireFault) → ◌≡◌ {A = Result ℕ WireFault} (Ok end) (Err f) → ⊥
-apart end f e = let z : ◌≡◌ {A = ℕ} 0 1 = cc in omega arith
-
 named_ok : (s : Bool) (at one end : ℕ) → Ok end ≡ named_end s at one → (s ≡ true) × (end ≡ one)
 named_ok true at one end e = (refl, cc)
-named_ok false at one end e = absurd (apart end _ e)
+named_ok false at one end e = absurd (cc)
 
 named_err : (s : Bool) (at one : ℕ) (f : WireFault) → Err f ≡ named_end s at one → (s ≡ false) × (record { reason = Content; place = at } ≡ f)
-named_err true at one f e = absurd (apart one f (sym e))
+named_err true at one f e = absurd (cc)
 named_err false at one f e = (refl, cc)
 
 pub rest_push : (bs : List ℕ) (d at : ℕ) (v : Opening) (one next : ℕ) → Opened bs d at (Ok v) → v.named ≡ true → Walked bs (d - 1) v.start (Ok one)
@@ -249,9 +242,3 @@ rest_fault bs at d count i end f r lt t =
     let e : skim (read_at bs d at) ≡ fault k x =
     r.left ∙ ap (λ n. skim (items (reading (offset (length bs)) (d - 1)) n (drop end bs))) s ∙ items_fault (reading (offset (length bs)) (d - 1)) (count - (i + 1)) (drop end bs) k x o in
     told_skim bs (read_at bs d at) (Err f) (rw e h)
-
-pub rest_done : (bs : List ℕ) (at d count i end : ℕ) → Rest bs at d count i end → count ≤ i → Walked bs d at (Ok end)
-rest_done bs at d count i end r le =
-    let s : count - i ≡ 0 = omega arith in
-    let e : skim (read_at bs d at) ≡ ok tt (drop end bs) = r.left ∙ ap (λ n. skim (items (reading (offset (length bs)) (d - 1)) n (drop end bs))) s in
-    told_skim bs (read_at bs d at) (Ok end) (rw e (r.within, refl))

@@ -15,8 +15,7 @@ fn body_end(bytes: &[u8], from: usize, n: usize) -> Result<usize, WireFault>
         return Err(WireReason::NotWhole.at(bytes.len()));
     }
     let end = from + n;
-    // kept: by `starts_with` a walk over short bulk strings takes 4% more steps
-    if bytes[end] == b'\r' && bytes[end + 1] == b'\n' {
+    if bytes[end..].starts_with(b"\r\n") {
         Ok(end)
     } else {
         Err(WireReason::NotClosed.at(end))

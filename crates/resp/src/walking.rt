@@ -1,6 +1,5 @@
 ghost use Rattle.std.specs.Prelude.{◌≡◌, ◌+◌, ◌<◌, length, drop};
 ghost use Rattle.resp.specs.Answer.{Right, answer};
-ghost use Rattle.resp.specs.Limits.{deepest};
 ghost use Rattle.resp.specs.Node.{offset, reading};
 ghost use Rattle.resp.specs.Told.{Ends, Opens, Told, named_end, opened, opening_from, starts_string};
 
@@ -24,17 +23,11 @@ pub(crate) fn open_at(bytes: &[u8], at: usize, depth_left: usize) -> Result<Open
     Item { bytes, at }.head_of(kind)
 }
 
-fn open_front(bytes: &[u8]) -> Result<Opening, WireFault>
-    ensures { Told (Opens bytes.now) bytes.now (opening_from deepest bytes.now 0) result }
-{
-    open_at(bytes, 0, DEEPEST)
-}
-
 /// The item that begins the bytes, up to its parts.
 pub fn open_item(bytes: &[u8]) -> Result<Opening, WireFault>
     ensures { result ≡ opened bytes.now }
 {
-    open_front(bytes)
+    open_at(bytes, 0, DEEPEST)
 }
 
 /// Whether a reply, which has been read, is a simple or bulk string.

@@ -1,4 +1,4 @@
-use Rattle.std.proofs.Common.{take, drop, ⊎_elim}
+use Rattle.std.proofs.Common.{take, drop, ⊎_elim, rules}
 use Rattle.resp.specs.declared.kind.Kind.TheVariants as kind
 use Rattle.resp.specs.Reply.{VerbatimString, ServerError}
 use Rattle.resp.specs.Reading.{simple_leaf}
@@ -31,5 +31,4 @@ returns-in-VerbatimString c =
     (told_leaf (λ d. VerbatimString (take 3 d) (drop 4 d)) c.args.self.bytes.now _ c.verbatim_string.result c.verbatim_string.ensures)
 
 pub returns-in-Integer : goal.returns-in-Integer
-returns-in-Integer c =
-    told_lined c.args.self.bytes.now c.args.kind _ _ c.leaf-in-Integer.result c.content_line.result c.leaf-in-Integer.ensures c.content_line.ensures c.in-Integer.is
+returns-in-Integer c = search (rules, told_lined)
