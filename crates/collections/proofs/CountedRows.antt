@@ -1,5 +1,5 @@
 -- Rows inside another shape are found at their place.
-use Rattle.std.proofs.Common.{◌≡◌, ℕ, List, length, Ok, Err, Result, sym, refl, ap, ◌∙◌, arith}
+use Rattle.std.proofs.Common.{◌≡◌, List, length, Ok, Err, Result, sym, refl, ap, ◌∙◌}
 use Rattle.resp.specs.Node.{Node}
 use Rattle.reply.specs.Find.{find}
 use Rattle.reply.specs.Parts.{spot_of}
@@ -15,7 +15,7 @@ use Rattle.collections.specs.Steps.{nth_in}
 
 module _ {V : Type 0} (rows : Node → Result (List V) Fault) (n : Node) where
   by : (r : Result (List V) Fault) → rows n ≡ r → (v : Listed V) → and_then (counted r) (λ c. Ok (listed_at (spot_of n) c)) ≡ Ok v → Counted rows n v
-  by (Err f) e v h = absurd (let z : ◌≡◌ {A = ℕ} 0 1 = cc in omega arith)
+  by (Err f) e v h = absurd cc
   by (Ok vs) e v h =
       let is : listed_at (spot_of n) (length vs) ≡ v = cc in
       let spot : v.spot ≡ spot_of n = ap (λ l. l.spot) (sym is) in

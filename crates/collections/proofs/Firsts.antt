@@ -27,7 +27,7 @@ one_either x (y ∷ xs) ys (inr h) = go (one_either x xs ys h)
     go (inr b) = inr b
 
 pub one_at : {A : Type 0} (i : ℕ) (x : A) (xs : List A) → nth i xs ≡ Some x → OneOf x xs
-one_at i x [] e = absurd (let z : ◌≡◌ {A = ℕ} 0 1 = cc in omega arith)
+one_at i x [] e = absurd cc
 one_at zero x (y ∷ xs) e = let s : x ≡ y = cc in inl s
 one_at (suc i) x (y ∷ xs) e = inr (one_at i x xs e)
 
@@ -133,7 +133,7 @@ module _ (alike : Node → Node → Bool) where
       fresh m (inr o) = fresh_more before ns n m (w.fresh m o)
 
   apart_at : Equality alike → (kept : List Node) → Apart kept → (i j : ℕ) (n m : Node) → nth i kept ≡ Some n → nth j kept ≡ Some m → alike n m ≡ true → i ≡ j
-  apart_at E [] a i j n m p q t = absurd (let z : ◌≡◌ {A = ℕ} 0 1 = cc in omega arith)
+  apart_at E [] a i j n m p q t = absurd cc
   apart_at E (x ∷ xs) (a, as') zero zero n m p q t = refl
   apart_at E (x ∷ xs) (a, as') zero (suc j) n m p q t =
       let is : n ≡ x = cc in absurd (both_ways (alike x m) (a m (one_at j m xs q)) (ap (λ y. alike y m) (sym is) ∙ t))

@@ -27,7 +27,7 @@ use Rattle.collections.proofs.Merges.{merged_distinct}
 
 -- no refusal is a value
 not_read : {V F : Type 0} {P : Type 0} (f : F) (v : V) → ◌≡◌ {A = Result V F} (Err f) (Ok v) → P
-not_read f v e = absurd (let z : ◌≡◌ {A = ℕ} 0 1 = cc in omega arith)
+not_read f v e = absurd cc
 
 and_then_read : {A B : Type 0} (r : Result A Fault) (k : A → Result B Fault) (y : B) → and_then r k ≡ Ok y → (x : A) × ((r ≡ Ok x) × (k x ≡ Ok y))
 and_then_read (Ok x) k y e = (x, (refl, e))
@@ -88,12 +88,12 @@ map_read p ns r vs case.ServerError e = not_read _ vs e
 
 nil_flat : (n : Node) → case_at n ≡ case.Nil → flat_of n ≡ []
 nil_flat (OneAt p e l) h = refl
-nil_flat (ArrayAt p e ns) h = absurd (let z : ◌≡◌ {A = ℕ} 0 1 = cc in omega arith)
-nil_flat (SetAt p e ns) h = absurd (let z : ◌≡◌ {A = ℕ} 0 1 = cc in omega arith)
-nil_flat (PushAt p e ns) h = absurd (let z : ◌≡◌ {A = ℕ} 0 1 = cc in omega arith)
-nil_flat (MapAt p e ps) h = absurd (let z : ◌≡◌ {A = ℕ} 0 1 = cc in omega arith)
-nil_flat (AttributeAt p e ps n) h = absurd (let z : ◌≡◌ {A = ℕ} 0 1 = cc in omega arith)
-nil_flat (PairAt p e k v) h = absurd (let z : ◌≡◌ {A = ℕ} 0 1 = cc in omega arith)
+nil_flat (ArrayAt p e ns) h = absurd cc
+nil_flat (SetAt p e ns) h = absurd cc
+nil_flat (PushAt p e ns) h = absurd cc
+nil_flat (MapAt p e ps) h = absurd cc
+nil_flat (AttributeAt p e ps n) h = absurd cc
+nil_flat (PairAt p e k v) h = absurd cc
 
 module _ {V : Type 0} (one : Node → Result V Fault) (alike : Node → Node → Bool) (E : Equality alike) where
   set_made : (ns : List Node) (vs : List V) → set_of one alike ns ≡ Ok vs → SetRows one alike ns vs

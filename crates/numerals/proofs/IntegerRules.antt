@@ -10,7 +10,7 @@ use Rattle.numerals.specs.Theorems.{IntegersAgree}
 -- a test that gives something has passed
 from_some : {A : Type 0} (t : Bool) (x y : A) → cond t (Some x) None ≡ Some y → (t ≡ true) × (x ≡ y)
 from_some true x y e = (refl, cc)
-from_some false x y e = let z : ◌≡◌ {A = ℕ} 0 1 = cc in absurd (omega arith)
+from_some false x y e = absurd cc
 
 unsigned_sound : (c : List ℕ) (z : ℤ) → unsigned_of c ≡ Some z → Integer z c
 unsigned_sound c z e =

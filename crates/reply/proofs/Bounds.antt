@@ -69,8 +69,8 @@ pub record Member (bs : List ℕ) (m : Bool) (p : ℕ) (rest : List ℕ) (k : No
   pub before : end + length rest ≤ length bs
 
 none_among : (k : Node) (ns : List Node) → Among k ns → [] ≡ ns → ⊥
-none_among _ _ (first {n = n} {ns = ns}) e = let z : ◌≡◌ {A = ℕ} 0 1 = cc in omega arith
-none_among _ _ (later {n = n} {m = m} {ns = ns} a) e = let z : ◌≡◌ {A = ℕ} 0 1 = cc in omega arith
+none_among _ _ (first {n = n} {ns = ns}) e = cc
+none_among _ _ (later {n = n} {m = m} {ns = ns} a) e = cc
 
 one_among : (k n : Node) (ns all : List Node) → Among k all → n ∷ ns ≡ all → (k ≡ n) ⊎ Among k ns
 one_among _ n ns _ (first {n = k} {ns = ms}) e = let same : k ≡ n = cc in inl same

@@ -48,7 +48,7 @@ find_below s n e = find_inner s n ∙ ap (λ t. or_else (cond t (Some n) None) (
 -- spots
 bools : (a b : Bool) → cond a b (not b) ≡ true → a ≡ b
 bools true b e = sym e
-bools false true e = let z : ◌≡◌ {A = ℕ} 0 1 = cc in absurd (omega arith)
+bools false true e = absurd cc
 bools false false e = refl
 
 bools_same : (a : Bool) → cond a a (not a) ≡ true
@@ -67,7 +67,7 @@ pub spot_same : (a b : Spot) → a ≡ b → same_spot a b ≡ true
 spot_same a b e = subst (λ c. same_spot a c ≡ true) e (ap (λ t. t && cond a.pair a.pair (not a.pair)) (eq-eqb a.at a.at refl) ∙ bools_same a.pair)
 
 clash : {n : Node} → ◌≡◌ {A = Option Node} None (Some n) → ⊥
-clash e = let z : ◌≡◌ {A = ℕ} 0 1 = cc in omega arith
+clash e = cc
 
 -- one of two
 or_some : {P : Type 0} (a b : Option Node) (n : Node) → or_else a b ≡ Some n → (a ≡ Some n → P) → (b ≡ Some n → P) → P

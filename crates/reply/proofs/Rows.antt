@@ -15,7 +15,7 @@ use Rattle.reply.specs.Tree.{view, view_at, row_at, is_read, read_or, node_at, n
 
 pub read_ok : {A : Type 0} (o : Out A) → is_read o ≡ true → (a : A) × (rest : List ℕ) × (o ≡ ok a rest)
 read_ok (ok a rest) h = (a, rest, refl)
-read_ok (fault k x) h = let z : ◌≡◌ {A = ℕ} 0 1 = cc in absurd (omega arith)
+read_ok (fault k x) h = absurd cc
 
 pub ok_read : {A : Type 0} (o : Out A) (a : A) (rest : List ℕ) → o ≡ ok a rest → is_read o ≡ true
 ok_read o a rest e = ap is_read e
@@ -29,7 +29,7 @@ unfolding nodes_at
 nodes_are bs m p n ns rest e = ap (read_or []) e
 
 apart : {n : ℕ} {f : WireFault} → ◌≡◌ {A = Result ℕ WireFault} (Ok n) (Err f) → ⊥
-apart h = let z : ◌≡◌ {A = ℕ} 0 1 = cc in omega arith
+apart h = cc
 
 -- what `walk` says of the bytes from a place on
 pub walk_ended : (bs : List ℕ) (p n : ℕ) → p ≤ length bs → answer (drop p bs) ≡ Ok n → Ended bs false p (p + n)

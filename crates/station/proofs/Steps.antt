@@ -132,7 +132,7 @@ no_fault bs p level t rest lt e f is =
     apart _ _ (is ∙ ap (opened_as (drop p bs)) o)
   where
     apart : (f : WireFault) (v : Opening) → ◌≡◌ {A = Result Opening WireFault} (Err f) (Ok v) → ⊥
-    apart f v e = let z : ◌≡◌ {A = ℕ} 0 1 = cc in omega arith
+    apart f v e = cc
 
 -- nothing below it is noted yet
 pub record Start (bs : List ℕ) (p level : ℕ) (t : Node) (rest : List ℕ) (v : Opening) : Type 0 where
@@ -197,4 +197,4 @@ unfolding tree_at
 read_there bs p n e = ⊎_elim (λ past. absurd (none (sym (ap answer (drop_all p bs (omega arith))) ∙ e))) (λ le. let w = walk_ended bs p n le e in (w.tree, w.reads)) (cases_lt (length bs) p)
   where
     none : answer [] ≡ Ok n → ⊥
-    none o = let z : ◌≡◌ {A = ℕ} 0 1 = cc in omega arith
+    none o = cc

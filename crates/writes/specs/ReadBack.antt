@@ -1,6 +1,6 @@
 -- Kinds read back what they wrote.
 use Rattle.std.specs.Prelude.{◌≡◌, ℕ, suc, true, false, cond, ◌&&◌, List, [], ◌∷◌, length, take, drop, ℤ, Some, None, Ok, Err, Result, ◌==◌, nat_eq, refl}
-use Rattle.std.proofs.Common.{sym, ap, ◌∙◌, subst, arith}
+use Rattle.std.proofs.Common.{sym, ap, ◌∙◌, subst}
 use Rattle.std.proofs.lemmas.Bool.{false≢true}
 use Rattle.resp.specs.declared.case.Case.TheVariants as case
 use Rattle.resp.specs.Reply.{Leaf, Nil, Int, BulkString, SimpleString, Okay, Double, Boolean, VerbatimString, BigNumber, ServerError, Reply, One}
@@ -28,8 +28,8 @@ use Rattle.writes.specs.Trees.{leaf_of_lem, array_of, all_inside}
 pub each_back : {V M : Type 0} (tree : Node) (one : Node → Result V Fault) (can : M → Type 0) (written : M → Reply) (stands : V → M → Type 0)
     → ReadsBack tree one can written stands → ManyBack tree (many_by one) can written stands
 each_back tree one can written stands back [] [] i c e = ([], refl, tt)
-each_back tree one can written stands back [] (n ∷ ns) i c e = absurd (let z : ◌≡◌ {A = ℕ} 0 1 = cc in omega arith)
-each_back tree one can written stands back (m ∷ ms) [] i c e = absurd (let z : ◌≡◌ {A = ℕ} 0 1 = cc in omega arith)
+each_back tree one can written stands back [] (n ∷ ns) i c e = absurd cc
+each_back tree one can written stands back (m ∷ ms) [] i c e = absurd cc
 each_back tree one can written stands back (m ∷ ms) (n ∷ ns) i c e =
     let p : erase n ≡ written m = cc in
     let q : mapped erase ns ≡ mapped written ms = cc in
@@ -109,7 +109,7 @@ tuple_test m n ns c f l = ap (λ k. holds k && length (flat_of n) == suc m) c �
 not_flat : {M : Type 0} (k : ℕ) (written : M → Reply) → ((m : M) (n : Node) → erase n ≡ written m → is_tuple k n ≡ true)
     → (ms : List M) (ns : List Node) → mapped erase ns ≡ mapped written ms → tuple_flat k ns ≡ false
 not_flat k written t ms [] e = refl
-not_flat k written t [] (n ∷ ns) e = absurd (let z : ◌≡◌ {A = ℕ} 0 1 = cc in omega arith)
+not_flat k written t [] (n ∷ ns) e = absurd cc
 not_flat k written t (m ∷ ms) (n ∷ ns) e =
     let p : erase n ≡ written m = cc in
     let q : mapped erase ns ≡ mapped written ms = cc in
@@ -131,10 +131,10 @@ record Of2 (ns : List Node) (r0 r1 : Reply) : Type 0 where
   ex1 : erase x1 ≡ r1
 
 of2 : (ns : List Node) (r0 r1 : Reply) → mapped erase ns ≡ r0 ∷ r1 ∷ [] → Of2 ns r0 r1
-of2 ([]) r0 r1 e = absurd (let z : ◌≡◌ {A = ℕ} 0 1 = cc in omega arith)
-of2 (x0 ∷ []) r0 r1 e = absurd (let z : ◌≡◌ {A = ℕ} 0 1 = cc in omega arith)
+of2 ([]) r0 r1 e = absurd cc
+of2 (x0 ∷ []) r0 r1 e = absurd cc
 of2 (x0 ∷ x1 ∷ []) r0 r1 e = record { x0 = x0; x1 = x1; is = refl; ex0 = cc; ex1 = cc }
-of2 (x0 ∷ x1 ∷ y ∷ ns) r0 r1 e = absurd (let z : ◌≡◌ {A = ℕ} 0 1 = cc in omega arith)
+of2 (x0 ∷ x1 ∷ y ∷ ns) r0 r1 e = absurd cc
 
 pub test2 : {Ma : Type 0} {Mb : Type 0} (wa : Ma → Reply) (wb : Mb → Reply) (m : Ma × Mb) (n : Node) → erase n ≡ written2 wa wb m → is_tuple 1 n ≡ true
 test2 wa wb m n e =
@@ -169,11 +169,11 @@ record Of3 (ns : List Node) (r0 r1 r2 : Reply) : Type 0 where
   ex2 : erase x2 ≡ r2
 
 of3 : (ns : List Node) (r0 r1 r2 : Reply) → mapped erase ns ≡ r0 ∷ r1 ∷ r2 ∷ [] → Of3 ns r0 r1 r2
-of3 ([]) r0 r1 r2 e = absurd (let z : ◌≡◌ {A = ℕ} 0 1 = cc in omega arith)
-of3 (x0 ∷ []) r0 r1 r2 e = absurd (let z : ◌≡◌ {A = ℕ} 0 1 = cc in omega arith)
-of3 (x0 ∷ x1 ∷ []) r0 r1 r2 e = absurd (let z : ◌≡◌ {A = ℕ} 0 1 = cc in omega arith)
+of3 ([]) r0 r1 r2 e = absurd cc
+of3 (x0 ∷ []) r0 r1 r2 e = absurd cc
+of3 (x0 ∷ x1 ∷ []) r0 r1 r2 e = absurd cc
 of3 (x0 ∷ x1 ∷ x2 ∷ []) r0 r1 r2 e = record { x0 = x0; x1 = x1; x2 = x2; is = refl; ex0 = cc; ex1 = cc; ex2 = cc }
-of3 (x0 ∷ x1 ∷ x2 ∷ y ∷ ns) r0 r1 r2 e = absurd (let z : ◌≡◌ {A = ℕ} 0 1 = cc in omega arith)
+of3 (x0 ∷ x1 ∷ x2 ∷ y ∷ ns) r0 r1 r2 e = absurd cc
 
 pub test3 : {Ma : Type 0} {Mb : Type 0} {Mg : Type 0} (wa : Ma → Reply) (wb : Mb → Reply) (wg : Mg → Reply) (m : Ma × Mb × Mg) (n : Node) → erase n ≡ written3 wa wb wg m → is_tuple 2 n ≡ true
 test3 wa wb wg m n e =
@@ -212,12 +212,12 @@ record Of4 (ns : List Node) (r0 r1 r2 r3 : Reply) : Type 0 where
   ex3 : erase x3 ≡ r3
 
 of4 : (ns : List Node) (r0 r1 r2 r3 : Reply) → mapped erase ns ≡ r0 ∷ r1 ∷ r2 ∷ r3 ∷ [] → Of4 ns r0 r1 r2 r3
-of4 ([]) r0 r1 r2 r3 e = absurd (let z : ◌≡◌ {A = ℕ} 0 1 = cc in omega arith)
-of4 (x0 ∷ []) r0 r1 r2 r3 e = absurd (let z : ◌≡◌ {A = ℕ} 0 1 = cc in omega arith)
-of4 (x0 ∷ x1 ∷ []) r0 r1 r2 r3 e = absurd (let z : ◌≡◌ {A = ℕ} 0 1 = cc in omega arith)
-of4 (x0 ∷ x1 ∷ x2 ∷ []) r0 r1 r2 r3 e = absurd (let z : ◌≡◌ {A = ℕ} 0 1 = cc in omega arith)
+of4 ([]) r0 r1 r2 r3 e = absurd cc
+of4 (x0 ∷ []) r0 r1 r2 r3 e = absurd cc
+of4 (x0 ∷ x1 ∷ []) r0 r1 r2 r3 e = absurd cc
+of4 (x0 ∷ x1 ∷ x2 ∷ []) r0 r1 r2 r3 e = absurd cc
 of4 (x0 ∷ x1 ∷ x2 ∷ x3 ∷ []) r0 r1 r2 r3 e = record { x0 = x0; x1 = x1; x2 = x2; x3 = x3; is = refl; ex0 = cc; ex1 = cc; ex2 = cc; ex3 = cc }
-of4 (x0 ∷ x1 ∷ x2 ∷ x3 ∷ y ∷ ns) r0 r1 r2 r3 e = absurd (let z : ◌≡◌ {A = ℕ} 0 1 = cc in omega arith)
+of4 (x0 ∷ x1 ∷ x2 ∷ x3 ∷ y ∷ ns) r0 r1 r2 r3 e = absurd cc
 
 pub test4 : {Ma : Type 0} {Mb : Type 0} {Mg : Type 0} {Md : Type 0} (wa : Ma → Reply) (wb : Mb → Reply) (wg : Mg → Reply) (wd : Md → Reply) (m : Ma × Mb × Mg × Md) (n : Node) → erase n ≡ written4 wa wb wg wd m → is_tuple 3 n ≡ true
 test4 wa wb wg wd m n e =

@@ -74,7 +74,7 @@ firsts_all alike pre (n ∷ ns) a u =
 unlike_with : {M : Type 0} (alike : Node → Node → Bool) (written : M → Reply) (n : Node) (r : Reply) → erase n ≡ r → (ms : List M) (ns : List Node) → All (λ l. Unlike alike r (written l)) ms
     → mapped erase ns ≡ mapped written ms → All (λ m. alike n m ≡ false) ns
 unlike_with alike written n r e ms [] a q = tt
-unlike_with alike written n r e [] (x ∷ ns) a q = absurd (let z : ◌≡◌ {A = ℕ} 0 1 = cc in omega arith)
+unlike_with alike written n r e [] (x ∷ ns) a q = absurd cc
 unlike_with alike written n r e (m ∷ ms) (x ∷ ns) a q =
     let p : erase x ≡ written m = cc in
     let t : mapped erase ns ≡ mapped written ms = cc in
@@ -83,7 +83,7 @@ unlike_with alike written n r e (m ∷ ms) (x ∷ ns) a q =
 unlikes : {M : Type 0} (alike : Node → Node → Bool) (written : M → Reply) (ms : List M) (ns : List Node) → Apart alike written ms → mapped erase ns ≡ mapped written ms → Unlikes alike ns
 unfolding Unlikes
 unlikes alike written ms [] a q = tt
-unlikes alike written [] (x ∷ ns) a q = absurd (let z : ◌≡◌ {A = ℕ} 0 1 = cc in omega arith)
+unlikes alike written [] (x ∷ ns) a q = absurd cc
 unlikes alike written (m ∷ ms) (x ∷ ns) a q =
     let p : erase x ≡ written m = cc in
     let t : mapped erase ns ≡ mapped written ms = cc in
@@ -114,9 +114,9 @@ entries_back : {A B MA MB : Type 0} (tree : Node) (key : Node → Result A Fault
     → ReadsBack tree key ck wk sk → ReadsBack tree value cv wv sv → (ms : List (MA × MB)) (ns : List Node) → All (λ n. Inside n tree) ns → All (Can2 ck cv) ms → mapped erase ns ≡ halves wk wv ms
     → (vs : List (A × B)) × (many_by (entry_one key value) (entries ns) ≡ Ok vs) × Each (Stands2 sk sv) vs ms
 entries_back tree key value ck cv wk wv sk sv bk bv [] [] i c e = ([], refl, tt)
-entries_back tree key value ck cv wk wv sk sv bk bv [] (k ∷ ns) i c e = absurd (let z : ◌≡◌ {A = ℕ} 0 1 = cc in omega arith)
-entries_back tree key value ck cv wk wv sk sv bk bv (m ∷ ms) [] i c e = absurd (let z : ◌≡◌ {A = ℕ} 0 1 = cc in omega arith)
-entries_back tree key value ck cv wk wv sk sv bk bv (m ∷ ms) (k ∷ []) i c e = absurd (let z : ◌≡◌ {A = ℕ} 0 1 = cc in omega arith)
+entries_back tree key value ck cv wk wv sk sv bk bv [] (k ∷ ns) i c e = absurd cc
+entries_back tree key value ck cv wk wv sk sv bk bv (m ∷ ms) [] i c e = absurd cc
+entries_back tree key value ck cv wk wv sk sv bk bv (m ∷ ms) (k ∷ []) i c e = absurd cc
 entries_back tree key value ck cv wk wv sk sv bk bv (m ∷ ms) (k ∷ v ∷ ns) i c e =
     let p : erase k ≡ wk m.0 = cc in
     let q : erase v ≡ wv m.1 = cc in
@@ -188,7 +188,7 @@ key_with : {MA MB : Type 0} (alike : Node → Node → Bool) (wk : MA → Reply)
 unfolding KeyAll
 key_with alike wk wv n r e ms [] a q = tt
 key_with alike wk wv n r e ms (k ∷ []) a q = tt
-key_with alike wk wv n r e [] (k ∷ v ∷ ns) a q = absurd (let z : ◌≡◌ {A = ℕ} 0 1 = cc in omega arith)
+key_with alike wk wv n r e [] (k ∷ v ∷ ns) a q = absurd cc
 key_with alike wk wv n r e (m ∷ ms) (k ∷ v ∷ ns) a q =
     let p : erase k ≡ wk m.0 = cc in
     let t : mapped erase ns ≡ halves wk wv ms = cc in
@@ -198,7 +198,7 @@ keys_unlike : {MA MB : Type 0} (alike : Node → Node → Bool) (wk : MA → Rep
 unfolding KeysUnlike
 keys_unlike alike wk wv ms [] a q = tt
 keys_unlike alike wk wv ms (k ∷ []) a q = tt
-keys_unlike alike wk wv [] (k ∷ v ∷ ns) a q = absurd (let z : ◌≡◌ {A = ℕ} 0 1 = cc in omega arith)
+keys_unlike alike wk wv [] (k ∷ v ∷ ns) a q = absurd cc
 keys_unlike alike wk wv (m ∷ ms) (k ∷ v ∷ ns) a q =
     let p : erase k ≡ wk m.0 = cc in
     let t : mapped erase ns ≡ halves wk wv ms = cc in

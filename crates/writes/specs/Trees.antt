@@ -1,6 +1,6 @@
 -- Located trees by the reply that they are.
 use Rattle.std.specs.Prelude.{◌≡◌, ℕ, List, [], ◌∷◌, refl}
-use Rattle.std.proofs.Common.{sym, ap, ◌∙◌, subst, arith}
+use Rattle.std.proofs.Common.{sym, ap, ◌∙◌, subst}
 use Rattle.resp.specs.declared.case.Case.TheVariants as case
 use Rattle.resp.specs.Reply.{Leaf, Reply, One, Array, Set, Map, replies, pairs}
 use Rattle.resp.specs.Node.{Node, OneAt, ArrayAt, SetAt, PushAt, MapAt, AttributeAt, PairAt, Nodes, no_node, node_then, NodePairs, no_nodes, nodes_then, erase, erase_all, erase_pairs}
@@ -18,17 +18,17 @@ pub record IsLeaf (n : Node) (l : Leaf) : Type 0 where
 
 pub leaf_of_lem : (n : Node) (l : Leaf) → erase n ≡ One l → IsLeaf n l
 leaf_of_lem (OneAt p e k) l h = let same : k ≡ l = cc in record { from = p; to = e; is = ap (OneAt p e) same }
-leaf_of_lem (ArrayAt p e ns) l h = absurd (let z : ◌≡◌ {A = ℕ} 0 1 = cc in omega arith)
-leaf_of_lem (SetAt p e ns) l h = absurd (let z : ◌≡◌ {A = ℕ} 0 1 = cc in omega arith)
-leaf_of_lem (PushAt p e ns) l h = absurd (let z : ◌≡◌ {A = ℕ} 0 1 = cc in omega arith)
-leaf_of_lem (MapAt p e ps) l h = absurd (let z : ◌≡◌ {A = ℕ} 0 1 = cc in omega arith)
-leaf_of_lem (AttributeAt p e ps d) l h = absurd (let z : ◌≡◌ {A = ℕ} 0 1 = cc in omega arith)
-leaf_of_lem (PairAt p e k v) l h = absurd (let z : ◌≡◌ {A = ℕ} 0 1 = cc in omega arith)
+leaf_of_lem (ArrayAt p e ns) l h = absurd cc
+leaf_of_lem (SetAt p e ns) l h = absurd cc
+leaf_of_lem (PushAt p e ns) l h = absurd cc
+leaf_of_lem (MapAt p e ps) l h = absurd cc
+leaf_of_lem (AttributeAt p e ps d) l h = absurd cc
+leaf_of_lem (PairAt p e k v) l h = absurd cc
 
 all_listed : (ns : Nodes) (rs : List Reply) → erase_all ns ≡ replies rs → mapped erase (listed ns) ≡ rs
 all_listed no_node [] e = refl
-all_listed no_node (r ∷ rs) e = absurd (let z : ◌≡◌ {A = ℕ} 0 1 = cc in omega arith)
-all_listed (node_then n ns) [] e = absurd (let z : ◌≡◌ {A = ℕ} 0 1 = cc in omega arith)
+all_listed no_node (r ∷ rs) e = absurd cc
+all_listed (node_then n ns) [] e = absurd cc
 all_listed (node_then n ns) (r ∷ rs) e =
     let p : erase n ≡ r = cc in
     let q : erase_all ns ≡ replies rs = cc in
@@ -49,22 +49,22 @@ listed_inside : (n : Node) (ns : List Node) → inner_of n ≡ ns → All (λ m.
 listed_inside n ns e = all_of (λ m. Inside m n) ns (λ m a. below (subst (Among m) (sym e) a) itself)
 
 pub array_of : (n : Node) (rs : List Reply) → erase n ≡ Array (replies rs) → (case_at n ≡ case.Array) × Holds n rs
-array_of (OneAt p e l) rs h = absurd (let z : ◌≡◌ {A = ℕ} 0 1 = cc in omega arith)
+array_of (OneAt p e l) rs h = absurd cc
 array_of (ArrayAt p e ns) rs h = (refl, record { bare = refl; items = all_listed ns rs (let same : erase_all ns ≡ replies rs = cc in same); parts = refl; inner = listed_inside (ArrayAt p e ns) (listed ns) refl })
-array_of (SetAt p e ns) rs h = absurd (let z : ◌≡◌ {A = ℕ} 0 1 = cc in omega arith)
-array_of (PushAt p e ns) rs h = absurd (let z : ◌≡◌ {A = ℕ} 0 1 = cc in omega arith)
-array_of (MapAt p e ps) rs h = absurd (let z : ◌≡◌ {A = ℕ} 0 1 = cc in omega arith)
-array_of (AttributeAt p e ps d) rs h = absurd (let z : ◌≡◌ {A = ℕ} 0 1 = cc in omega arith)
-array_of (PairAt p e k v) rs h = absurd (let z : ◌≡◌ {A = ℕ} 0 1 = cc in omega arith)
+array_of (SetAt p e ns) rs h = absurd cc
+array_of (PushAt p e ns) rs h = absurd cc
+array_of (MapAt p e ps) rs h = absurd cc
+array_of (AttributeAt p e ps d) rs h = absurd cc
+array_of (PairAt p e k v) rs h = absurd cc
 
 pub set_of_lem : (n : Node) (rs : List Reply) → erase n ≡ Set (replies rs) → (case_at n ≡ case.Set) × Holds n rs
-set_of_lem (OneAt p e l) rs h = absurd (let z : ◌≡◌ {A = ℕ} 0 1 = cc in omega arith)
-set_of_lem (ArrayAt p e ns) rs h = absurd (let z : ◌≡◌ {A = ℕ} 0 1 = cc in omega arith)
+set_of_lem (OneAt p e l) rs h = absurd cc
+set_of_lem (ArrayAt p e ns) rs h = absurd cc
 set_of_lem (SetAt p e ns) rs h = (refl, record { bare = refl; items = all_listed ns rs (let same : erase_all ns ≡ replies rs = cc in same); parts = refl; inner = listed_inside (SetAt p e ns) (listed ns) refl })
-set_of_lem (PushAt p e ns) rs h = absurd (let z : ◌≡◌ {A = ℕ} 0 1 = cc in omega arith)
-set_of_lem (MapAt p e ps) rs h = absurd (let z : ◌≡◌ {A = ℕ} 0 1 = cc in omega arith)
-set_of_lem (AttributeAt p e ps d) rs h = absurd (let z : ◌≡◌ {A = ℕ} 0 1 = cc in omega arith)
-set_of_lem (PairAt p e k v) rs h = absurd (let z : ◌≡◌ {A = ℕ} 0 1 = cc in omega arith)
+set_of_lem (PushAt p e ns) rs h = absurd cc
+set_of_lem (MapAt p e ps) rs h = absurd cc
+set_of_lem (AttributeAt p e ps d) rs h = absurd cc
+set_of_lem (PairAt p e k v) rs h = absurd cc
 
 -- keys and values, one after another
 abbrev pub alternated : List (Reply × Reply) → List Reply
@@ -73,8 +73,8 @@ alternated (p ∷ ps) = p.0 ∷ p.1 ∷ alternated ps
 
 all_paired : (ps : NodePairs) (rs : List (Reply × Reply)) → erase_pairs ps ≡ pairs rs → mapped erase (flattened ps) ≡ alternated rs
 all_paired no_nodes [] e = refl
-all_paired no_nodes (r ∷ rs) e = absurd (let z : ◌≡◌ {A = ℕ} 0 1 = cc in omega arith)
-all_paired (nodes_then k v ps) [] e = absurd (let z : ◌≡◌ {A = ℕ} 0 1 = cc in omega arith)
+all_paired no_nodes (r ∷ rs) e = absurd cc
+all_paired (nodes_then k v ps) [] e = absurd cc
 all_paired (nodes_then k v ps) (r ∷ rs) e =
     let p : erase k ≡ r.0 = cc in
     let q : erase v ≡ r.1 = cc in
@@ -93,15 +93,15 @@ pub record Maps (n : Node) (rs : List (Reply × Reply)) : Type 0 where
   pub inner : All (λ m. Inside m n) (flat_of n)
 
 pub map_of_lem : (n : Node) (rs : List (Reply × Reply)) → erase n ≡ Map (pairs rs) → (case_at n ≡ case.Map) × Maps n rs
-map_of_lem (OneAt p e l) rs h = absurd (let z : ◌≡◌ {A = ℕ} 0 1 = cc in omega arith)
-map_of_lem (ArrayAt p e ns) rs h = absurd (let z : ◌≡◌ {A = ℕ} 0 1 = cc in omega arith)
-map_of_lem (SetAt p e ns) rs h = absurd (let z : ◌≡◌ {A = ℕ} 0 1 = cc in omega arith)
-map_of_lem (PushAt p e ns) rs h = absurd (let z : ◌≡◌ {A = ℕ} 0 1 = cc in omega arith)
+map_of_lem (OneAt p e l) rs h = absurd cc
+map_of_lem (ArrayAt p e ns) rs h = absurd cc
+map_of_lem (SetAt p e ns) rs h = absurd cc
+map_of_lem (PushAt p e ns) rs h = absurd cc
 map_of_lem (MapAt p e ps) rs h =
     (refl, record { bare = refl; items = all_paired ps rs (let same : erase_pairs ps ≡ pairs rs = cc in same); inner = all_flat (λ m. Inside m (MapAt p e ps)) ps (λ q m a i. below a i) })
-map_of_lem (AttributeAt p e ps d) rs h = absurd (let z : ◌≡◌ {A = ℕ} 0 1 = cc in omega arith)
-map_of_lem (PairAt p e k v) [] h = absurd (let z : ◌≡◌ {A = ℕ} 0 1 = cc in omega arith)
-map_of_lem (PairAt p e k v) (r ∷ s ∷ rs) h = absurd (let z : ◌≡◌ {A = ℕ} 0 1 = cc in omega arith)
+map_of_lem (AttributeAt p e ps d) rs h = absurd cc
+map_of_lem (PairAt p e k v) [] h = absurd cc
+map_of_lem (PairAt p e k v) (r ∷ s ∷ rs) h = absurd cc
 map_of_lem (PairAt p e k v) (r ∷ []) h =
     let a : erase k ≡ r.0 = cc in
     let b : erase v ≡ r.1 = cc in

@@ -1,5 +1,5 @@
 -- What kinds write, and what a value that was read stands for.
-use Rattle.std.specs.Prelude.{◌≡◌, ℕ, ◌^◌, ◌<◌, Bool, true, false, ◌&&◌, List, [], ◌∷◌, length, take, drop, ℤ, pos, Some, None, Ok, Option, Result, int_le}
+use Rattle.std.specs.Prelude.{◌≡◌, ℕ, Bool, true, false, ◌&&◌, List, [], ◌∷◌, length, take, drop, ℤ, Some, None, Ok, Option, Result, int_le}
 use Rattle.resp.specs.Reply.{Nil, Int, BulkString, SimpleString, Okay, Double, Boolean, VerbatimString, BigNumber, ServerError, Reply, One, Array, Set, Push, Map, Attribute, pairs, replies}
 use Rattle.resp.specs.Node.{Node, erase}
 use Rattle.reply.specs.declared.part.Part.{Part}
