@@ -36,7 +36,6 @@ PATTERNS = {
     '3 an index by enumerate': r'\.enumerate\(\)',
     '3 a for that folds or searches': r'^\s*for b in ',
     '4 values compared by hand': r'\.at == \w+\.at|=> x == y|is_same\(line, b"',
-    '4 a type of plain data without equality': r'^#\[derive\(Clone, Copy\)\]$',
     '4 an exit that writes out reason and place': r'WireFault \{$|WireFault \{ reason, place',
     '5 bytes and a place as parameters': r'bytes: &\[u8\], (at|from): usize|^\s*at: usize,$',
     '5 the fact of such a place in a clause': r'(requires|ensures).*(at < length bytes|wholly(_row)? bytes\.now)',

@@ -5,6 +5,7 @@ ghost use Rattle.std.specs.Float.Ieee.Exact.{HasValue};
 use super::fault::FloatFault;
 
 /// The powers of ten that are floats.
+// kept: a table of a set length, as no more powers of ten are floats
 static POWERS: [f64; 23] = [
     1e0, 1e1, 1e2, 1e3, 1e4, 1e5, 1e6, 1e7, 1e8, 1e9, 1e10, 1e11, 1e12, 1e13, 1e14, 1e15, 1e16,
     1e17, 1e18, 1e19, 1e20, 1e21, 1e22,

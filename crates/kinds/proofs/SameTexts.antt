@@ -1,5 +1,5 @@
 -- Texts are the same just where their bytes are.
-use Rattle.std.proofs.Common.{◌≡◌, ℕ, Bool, true, false, ◌&&◌, List, ℤ, Some, None, Decides, Option, sym, refl, ap, ◌∙◌, arith}
+use Rattle.std.proofs.Common.{◌≡◌, ℕ, Bool, true, false, ◌&&◌, List, ℤ, Some, None, Ok, Err, Decides, Option, Result, sym, refl, ap, ◌∙◌, arith}
 use Rattle.std.specs.Str.{bytes_eq}
 use Rattle.std.proofs.lemmas.Slice.Eq.{bytes_eq-Decides}
 use Rattle.numerals.specs.Integer.{integer}
@@ -7,7 +7,10 @@ use Rattle.numerals.proofs.OneLine.{one_line}
 use Rattle.resp.specs.Reply.{Leaf, Nil, Int, BulkString, SimpleString, Okay, Double, Boolean, VerbatimString, BigNumber, ServerError}
 use Rattle.resp.specs.Node.{Node, OneAt, ArrayAt, SetAt, PushAt, MapAt, AttributeAt, PairAt}
 use Rattle.reply.specs.Says.{SaysLeaf, Says}
-use Rattle.kinds.specs.Same.{by_integer, key_of_text, leaf_key, text_key, same_key, eqℤ}
+use Rattle.std.specs.Option.{option_eq}
+use Rattle.std.specs.Result.{result_ok}
+use Rattle.kinds.specs.declared.fault.Fault.{Fault}
+use Rattle.kinds.specs.Same.{by_integer, key_of_text, leaf_key, text_key, same_key, same_read, eqℤ}
 use Rattle.kinds.specs.Equalities.{eqℤ_decides}
 
 leaf_key_lem : (l : Leaf) (x : List ℕ) → SaysLeaf l x → leaf_key l ≡ key_of_text x
@@ -67,3 +70,10 @@ same_name n x y r s d =
 
 pub same_bytes : (n m : Node) (x y : List ℕ) (r : Bool) → Says n x → Says m y → Decides r (x ≡ y) → r ≡ same_key (text_key n) (text_key m)
 same_bytes n m x y r s t d = same_name n x y r s d ∙ ap (same_key (text_key n)) (sym (text_key_lem m y t))
+
+-- values as options: what is not read is none
+pub same_ok : {V : Type 0} (eq : V → V → Bool) (a b : Result V Fault) → option_eq eq (result_ok a) (result_ok b) ≡ same_read eq a b
+same_ok eq (Ok x) (Ok y) = refl
+same_ok eq (Ok x) (Err g) = refl
+same_ok eq (Err f) (Ok y) = refl
+same_ok eq (Err f) (Err g) = refl

@@ -33,9 +33,5 @@ pub fn same_next<K: Same>(kind: &K, a: &mut Items<'_>, b: &mut Items<'_>) -> boo
 pub(crate) fn same_read<V: PartialEq + Copy>(a: Result<V, Fault>, b: Result<V, Fault>) -> bool
     ensures { result ≡ same_read V.PartialEq.eq a b }
 {
-    match (a, b) {
-        (Ok(x), Ok(y)) => x == y,
-        (Err(_), Err(_)) => true,
-        _ => false,
-    }
+    a.ok() == b.ok()
 }

@@ -19,6 +19,7 @@ impl<'a> Item<'a> {
         requires { most < 2 ^ 32 }
         ensures { Judged most self.entry.at content.now result }
     {
+        // kept: with `?` for the first refusal the two would stand apart, and the three answers say no more
         match plain_number(content) {
             Some(n) if n <= most => Ok(n as usize),
             Some(_) => Err(WireReason::Limit.at(self.at)),

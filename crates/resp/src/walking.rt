@@ -10,6 +10,7 @@ use crate::limits::DEEPEST;
 use crate::opening::Opening;
 
 /// The item at `at` up to its parts, where so many levels are left.
+// kept: bytes and a place, here and below, since the place may be past the last byte, where no item is
 pub(crate) fn open_at(bytes: &[u8], at: usize, depth_left: usize) -> Result<Opening, WireFault>
     ensures { Told (Opens bytes.now) bytes.now (opening_from depth_left bytes.now at) result }
 {
