@@ -1,5 +1,5 @@
-ghost use Rattle.std.specs.Prelude.{◌≡◌, ◌≤ℤ◌, ◌<◌, ◌^◌, ℕ, ℤ, pos, unsigned_abs, Some, None, Option, refl};
-ghost use Rattle.kinds.specs.Numbers.{bounds_from, i64_bounds, i8_bounds, u16_bounds, u64_bounds, u8_bounds};
+ghost use Rattle.std.specs.Prelude.{◌≡◌, ◌<◌, ◌^◌, ℕ, ℤ, pos, unsigned_abs, Some, None, Option, option_map, refl};
+ghost use Rattle.kinds.specs.Numbers.{between, bounds_from, i64_bounds, i8_bounds, u16_bounds, u64_bounds, u8_bounds};
 ghost use Rattle.kinds.specs.Rows.{byte_by};
 
 use crate::bounds::Bounds;
@@ -26,10 +26,9 @@ pub trait Width: Copy {
 
     const HIGH: i128;
 
-    fn narrowed(number: i128) -> Self
-        requires low { LOW ≤ℤ number }
-        requires high { number ≤ℤ HIGH }
-        ensures { result ≡ narrow number };
+    // the value that a number is, if it is between them
+    fn narrowed(number: i128) -> Option<Self>
+        ensures { result ≡ option_map narrow (between (bounds_from LOW HIGH) (Some number)) };
 
     fn of_byte(byte: u8) -> Option<Self>
         ensures { result ≡ byte_by bytewise byte };
@@ -69,8 +68,8 @@ impl Width for u8 {
 
     const HIGH: i128 = u8::MAX as i128;
 
-    fn narrowed(number: i128) -> u8 {
-        number as u8
+    fn narrowed(number: i128) -> Option<u8> {
+        u8::try_from(number).ok()
     }
 
     fn of_byte(byte: u8) -> Option<u8> {
@@ -97,8 +96,8 @@ impl Width for u16 {
 
     const HIGH: i128 = u16::MAX as i128;
 
-    fn narrowed(number: i128) -> u16 {
-        number as u16
+    fn narrowed(number: i128) -> Option<u16> {
+        u16::try_from(number).ok()
     }
 
     fn of_byte(_byte: u8) -> Option<u16> {
@@ -125,8 +124,8 @@ impl Width for u64 {
 
     const HIGH: i128 = u64::MAX as i128;
 
-    fn narrowed(number: i128) -> u64 {
-        number as u64
+    fn narrowed(number: i128) -> Option<u64> {
+        u64::try_from(number).ok()
     }
 
     fn of_byte(_byte: u8) -> Option<u64> {
@@ -153,8 +152,8 @@ impl Width for i8 {
 
     const HIGH: i128 = i8::MAX as i128;
 
-    fn narrowed(number: i128) -> i8 {
-        number as i8
+    fn narrowed(number: i128) -> Option<i8> {
+        i8::try_from(number).ok()
     }
 
     fn of_byte(_byte: u8) -> Option<i8> {
@@ -181,8 +180,8 @@ impl Width for i64 {
 
     const HIGH: i128 = i64::MAX as i128;
 
-    fn narrowed(number: i128) -> i64 {
-        number as i64
+    fn narrowed(number: i128) -> Option<i64> {
+        i64::try_from(number).ok()
     }
 
     fn of_byte(_byte: u8) -> Option<i64> {

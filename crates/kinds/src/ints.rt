@@ -50,7 +50,7 @@ impl<T: Width> FromRedisValue for Integer<T> {
 
     fn from_redis_value(&self, reply: Reply<'_>) -> Result<T, Fault> {
         let number = bounded(reply, bounds_of::<T>())?;
-        Ok(T::narrowed(number))
+        Ok(T::narrowed(number).unwrap())
     }
 }
 
