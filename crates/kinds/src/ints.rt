@@ -33,15 +33,25 @@ fn same_number(a: Reply<'_>, b: Reply<'_>, bounds: Bounds) -> bool
 #[derive(Clone, Copy)]
 pub struct Integer<T>(PhantomData<T>);
 
-pub const U8: Integer<u8> = Integer(PhantomData);
+pub type U8 = Integer<u8>;
 
-pub const U16: Integer<u16> = Integer(PhantomData);
+pub const U8: U8 = Integer(PhantomData);
 
-pub const U64: Integer<u64> = Integer(PhantomData);
+pub type U16 = Integer<u16>;
 
-pub const I8: Integer<i8> = Integer(PhantomData);
+pub const U16: U16 = Integer(PhantomData);
 
-pub const I64: Integer<i64> = Integer(PhantomData);
+pub type U64 = Integer<u64>;
+
+pub const U64: U64 = Integer(PhantomData);
+
+pub type I8 = Integer<i8>;
+
+pub const I8: I8 = Integer(PhantomData);
+
+pub type I64 = Integer<i64>;
+
+pub const I64: I64 = Integer(PhantomData);
 
 impl<T: Width> FromRedisValue for Integer<T> {
     type Value = T;

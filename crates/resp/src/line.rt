@@ -14,6 +14,7 @@ impl<'a> Item<'a> {
         ensures { Tells (λ bs. Lines bs (self.entry.at + 1)) (λ s. line s line_most) self.entry result }
     {
         let from = self.at + 1;
+        // kept: `position` would give the first of both ends, and that byte and the limit would have to be asked again
         for (n, byte) in self.bytes[from..].iter().enumerate() {
             match *byte as char {
                 '\r' => return match &self.bytes[from + n + 1..] {

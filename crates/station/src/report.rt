@@ -161,8 +161,8 @@ fn stopped(replies: u64, at: usize, fault: WireFault) -> Survey
         replies,
         bytes: at,
         fault: Some(WireFault {
-            reason: fault.reason,
             place: at + fault.place,
+            ..fault
         }),
     }
 }
