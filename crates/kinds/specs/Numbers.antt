@@ -1,5 +1,5 @@
 -- What the number kinds read.
-use Rattle.std.specs.Prelude.{ℕ, Bool, List, ℤ, pos, negsuc, ◌≤ℤ◌, Some, None, Ok, Err, Option, Result, int_lt, ok_or, unsigned_abs, Float}
+use Rattle.std.specs.Prelude.{◌≡◌, refl, ℕ, Bool, List, ℤ, pos, negsuc, ◌≤ℤ◌, Some, None, Ok, Err, Option, Result, int_lt, ok_or, unsigned_abs, Float}
 use Rattle.decimals.specs.declared.fault.FloatFault.{FloatFault}
 use Rattle.decimals.specs.Decimal.{read_double, read_float}
 use Rattle.decimals.specs.Floats.{exact_float, whole_float_capped}
@@ -73,6 +73,11 @@ integer_one b n = integer_by (spot_of n) b (integer_in (unwrapped n)) (text_in (
 abbrev pub narrowed : {V : Type 0} → (ℤ → V) → Result ℤ Fault → Result V Fault
 narrowed narrow (Ok z) = Ok (narrow z)
 narrowed narrow (Err f) = Err f
+
+-- a signed integer is its number
+pub narrowed_same : (r : Result ℤ Fault) → narrowed (λ z. z) r ≡ r
+narrowed_same (Ok z) = refl
+narrowed_same (Err f) = refl
 
 -- the same of an unsigned kind
 abbrev pub natural : Result ℤ Fault → Result ℕ Fault

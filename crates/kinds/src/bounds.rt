@@ -12,7 +12,7 @@ impl Bounds {
     pub(crate) fn contain(self, number: i128) -> bool
         ensures { result ≡ (int_le self.low number && int_le number self.high) }
     {
-        self.low <= number && number <= self.high
+        (self.low..=self.high).contains(&number)
     }
 
     /// Whether numbers below 0 are taken.

@@ -5,7 +5,7 @@ ghost use Rattle.kinds.specs.Numbers.{between, double_float, double_integer, flo
 
 use crate::bounds::Bounds;
 use crate::fault::{ElementReason, Fault};
-use crate::fault_at::refuse;
+use crate::fault_at::{refuse, refuse_at};
 use crate::text::{check_utf8, text_of};
 use decimals::{FloatFault, exact_float, read_double, read_float, read_whole, whole_of};
 use reply::Reply;
@@ -22,11 +22,8 @@ fn in_range(number: Option<i128>, bounds: Bounds) -> Option<i128>
 fn float_or_refuse(reply: Reply<'_>, read: Result<f64, FloatFault>) -> Result<f64, Fault>
     ensures { result ≡ float_or (spot_of (node_of reply.entry)) Ok read }
 {
-    // kept: tried as `map_err`, but what a closure that captures the reply answers could not be proved
-    match read {
-        Ok(x) => Ok(x),
-        Err(fault) => Err(refuse(fault.into(), reply)),
-    }
+    let spot = reply.spot();
+    read.map_err(|fault| refuse_at(fault.into(), spot))
 }
 
 /// The integer that a text writes, as the text of the reply.
@@ -73,6 +70,7 @@ fn text_float(reply: Reply<'_>, text: &[u8]) -> Result<f64, Fault>
 }
 
 /// The float that a double's line is.
+// kept: tried in its place in `float_number`, but the proof of that did not close with the grammar of doubles open
 fn double_float(reply: Reply<'_>, line: &[u8]) -> Result<f64, Fault>
     ensures { result ≡ double_float (spot_of (node_of reply.entry)) line.now }
 {

@@ -1,6 +1,7 @@
 -- The loop over the replies right below one: what is noted so far, and what is left to read.
-use Rattle.std.proofs.Common.{◌≡◌, ℕ, zero, suc, ◌+◌, ◌-◌, ◌<◌, ◌≤◌, List, [], ◌∷◌, ◌++◌, length, drop, Some, Ok, Err, Option, Result, sym, ap, ◌∙◌, append_assoc, append-nil, ⊎_elim, arith}
+use Rattle.std.proofs.Common.{◌≡◌, ℕ, zero, suc, ◌+◌, ◌-◌, ◌<◌, ◌≤◌, List, [], ◌∷◌, ◌++◌, length, drop, Some, Ok, Err, None, Option, Result, false, sym, ap, ◌∙◌, append_assoc, append-nil, ⊎_elim, arith}
 use Rattle.std.proofs.lemmas.List.{drop_all, length-drop, length-append}
+use Rattle.std.specs.Option.{is_some}
 use Rattle.std.proofs.lemmas.Bool.{cases_lt}
 use Rattle.resp.specs.declared.case.Case.{Case}
 use Rattle.resp.specs.declared.opening.Opening.{Opening}
@@ -198,3 +199,13 @@ read_there bs p n e = ⊎_elim (λ past. absurd (none (sym (ap answer (drop_all 
   where
     none : answer [] ≡ Ok n → ⊥
     none o = cc
+
+-- a case that there is, and one that there is not
+pub no_case : (r : Option Case) (k : Case) → false ≡ is_some r → r ≡ Some k → ⊥
+no_case None k v e = cc
+no_case (Some j) k v e = cc
+
+-- a case has one value
+pub one_case : (r : Option Case) (j k : Case) → r ≡ Some j → r ≡ Some k → j ≡ k
+one_case None j k v e = cc
+one_case (Some i) j k v e = cc

@@ -96,9 +96,7 @@ pub fn note_reply(
         named: _,
         start,
     } = open_item(reply)?;
-    let Some(case) = case_of(reply) else {
-        return Err(Stop::Deep);
-    };
+    let case = case_of(reply).ok_or(Stop::Deep)?;
     let index = notes.len();
     notes.push(Note {
         at,

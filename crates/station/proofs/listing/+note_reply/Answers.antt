@@ -1,10 +1,10 @@
-use Rattle.std.proofs.Common.{◌≡◌, Some, ap, ◌∙◌, subst, arith}
+use Rattle.std.proofs.Common.{◌≡◌, ap, ◌∙◌, subst, arith}
 use Rattle.std.proofs.lemmas.List.{take_rest}
 use Rattle.std.proofs.lemmas.Result.{err_from_is_err_and}
 use Rattle.resp.specs.Cases.{Cased, case_of}
 use Rattle.resp.specs.Node.{erase}
 use Rattle.resp.specs.Told.{opened}
-use Rattle.station.proofs.Steps.{stands_inside, not_too_deep, told_case, no_fault, start, child, next, finish}
+use Rattle.station.proofs.Steps.{stands_inside, not_too_deep, told_case, no_case, one_case, no_fault, start, child, next, finish}
 use Rattle.station.proofs.listing.+note_reply.Goals as goal
 use Rattle.station.proofs.listing.+note_reply.Goals.{then-at-bytes-via-then-at-bytes, then-at-bytes-via-else-at-bytes+then-level-ge-DEEPEST}
 
@@ -20,11 +20,11 @@ returns-in_err-items t c tree rest e =
     let bs = c.args.bytes.now in
     absurd (no_fault bs c.args.at c.args.level tree rest (omega arith) e c.in_err-items.field-0.0 (c.in_err-items.ensures ∙ ap opened (take_rest bs c.args.at)))
 
-pub returns-in_default : goal.returns-in_default
-returns-in_default t c tree rest e =
+pub returns-in_err-case : goal.returns-in_err-case
+returns-in_err-case t c tree rest e =
     let bs = c.args.bytes.now in
     let cased = subst (λ l. Cased l c.case_of.result) (take_rest bs c.args.at) c.case_of.ensures.tree in
-    absurd (c.in_default.not-Some _ (told_case bs c.args.at c.args.level tree rest (omega arith) e c.case_of.result cased))
+    absurd (no_case c.case_of.result _ c.in_err-case.ensures.variant (told_case bs c.args.at c.args.level tree rest (omega arith) e c.case_of.result cased))
 
 pub loop-item-init : goal.loop-item-init
 loop-item-init t c tree rest e =
@@ -32,9 +32,9 @@ loop-item-init t c tree rest e =
     let p = c.args.at in
     let level = c.args.level in
     let s = start bs p level tree rest (omega arith) e c.in_ok-items.field-0 (c.in_ok-items.ensures ∙ ap opened (take_rest bs p)) in
-    let told = told_case bs p level tree rest (omega arith) e (Some c.in-Some.case) (subst (λ l. Cased l (Some c.in-Some.case)) (take_rest bs p) c.in-Some.ensures.tree) in
-    let case : c.in-Some.case ≡ case_of (erase tree) = cc in
-    (omega (arith, c.len-index.ensures), s.going c.args.notes.now.items c.push.new.self.items c.in-Some.case c.saturating_add-end.result case c.in_ok-push.ensures.items (omega (arith, s.fits)))
+    let told = told_case bs p level tree rest (omega arith) e c.case_of.result (subst (λ l. Cased l c.case_of.result) (take_rest bs p) c.case_of.ensures.tree) in
+    let case = one_case c.case_of.result c.in_ok-case.case (case_of (erase tree)) c.in_ok-case.ensures.ok_part told in
+    (omega (arith, c.len-index.ensures), s.going c.args.notes.now.items c.push.new.self.items c.in_ok-case.case c.saturating_add-end.result case c.in_ok-push.ensures.items (omega (arith, s.fits)))
 
 pub returns-in_err-end : goal.returns-in_err-end
 returns-in_err-end t c tree rest e =
