@@ -1,9 +1,10 @@
 """Counts the places in src/ that an older design left, at a commit or in the work tree.
 
-    python3 scripts/places.py [COMMIT] [--list]
+    python3 scripts/places.py [COMMIT] [--wide] [--list]
 
 Each point is counted by patterns over the lines of crates/*/src/*.rt, tests left out, and twins by comparing functions
-whose types, constants and numbers are taken out. docs/DESIGN-PASS.md says what the points are.
+whose types, constants and numbers are taken out. --wide counts by patterns that hit old and new forms alike, whatever
+their names. docs/DESIGN-PASS.md says what the points are.
 """
 import re
 import subprocess
@@ -41,6 +42,19 @@ PATTERNS = {
     '5 the fact of such a place in a clause': r'(requires|ensures).*(at < length bytes|wholly(_row)? bytes\.now)',
     '6 a buffer with its length beside it, or an array of a set length': r': \[\w+; [0-9]+\]|^\s*pub len: usize',
     '7 a mode that says which step runs': r'Mode::\w+ =>|Mode::\w+ \| Mode|mode: ',
+}
+
+WIDE = {
+    '1 arms of None, Some, Ok and Err': r'^\s*(None|Some\(.*\)|Ok\(.*\)|Err\(.*\)) =>',
+    '3 while and loop': r'^\s*(while|loop)\b',
+    '3 for': r'^\s*for .* in ',
+    '3 a search that returns true': r'^\s*return true;',
+    '5 a bool as a field or a parameter': r'\b\w+: bool\b',
+    '5 a reply and its text or line as parameters': r'reply: Reply<.*, (text|line): &\[u8\]',
+    '5 a power of two as a bound in a clause': r'(requires|ensures).*2 \^ (32|64)',
+    '5 a clause of more than 300 characters': r'^.{301}',
+    '6 saturating sums of places and lengths': r'\.saturating_(add|sub)\(',
+    "7 a kind's byte written out": r"b'[-+:$*~>%|=!,_#(]'",
 }
 
 
@@ -85,11 +99,13 @@ def twins(files):
 def main():
     commit = next((a for a in sys.argv[1:] if not a.startswith('-')), None)
     files = list(sources(commit))
-    for point, pattern in PATTERNS.items():
+    for point, pattern in (WIDE if '--wide' in sys.argv else PATTERNS).items():
         found = [f'{name}:{i + 1}: {line.strip()}' for name, text in files for i, line in enumerate(text.split('\n')) if re.search(pattern, line)]
         print(f'{len(found):4} {point}')
         if '--list' in sys.argv:
             print(''.join(f'       {f}\n' for f in found), end='')
+    if '--wide' in sys.argv:
+        return
     found = twins(files)
     print(f'{len(found):4} 2 groups of functions and impls that differ only in names, types and constants, {sum(map(len, found))} in all')
     if '--list' in sys.argv:

@@ -15,6 +15,7 @@ use reply::{Items, Reply, Spot};
 use std::marker::PhantomData;
 
 /// The integer that a reply is: it lies within the bounds.
+// kept: that follows from what `whole_number` answers, and is shown here once in place of at each of its ends
 fn bounded(reply: Reply<'_>, bounds: Bounds) -> Result<i128, Fault>
     ensures same { result ≡ integer_one bounds (node_of reply.entry) }
     ensures within { Within bounds result }
@@ -74,6 +75,7 @@ impl<T: Width> Same for Integer<T> {
     }
 }
 
+// kept: beside that for `Single`, since a byte string is a list of integers of eight bits
 impl<T: Width> Rows for Integer<T> {
     ghost flat = { λ _ _. false };
 

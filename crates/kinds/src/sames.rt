@@ -1,7 +1,7 @@
 ghost use Rattle.std.specs.Prelude.{◌≡◌, true};
 ghost use Rattle.std.specs.Str.{bytes_eq};
 ghost use Rattle.reply.specs.View.{node_of};
-ghost use Rattle.kinds.specs.Same.{is_nil, same2, same3, same4, same_bool, same_key, same_option, same_parts, same_text, text_key};
+ghost use Rattle.kinds.specs.Same.{same2, same3, same4, same_bool, same_key, same_option, same_parts, same_text, text_key};
 ghost use Rattle.kinds.specs.Equalities.{bool_equality, always_equality, text_equality, option_equality, equality2, parts_equality, equality3, equality4};
 
 use crate::kind::FromRedisValue;
@@ -48,12 +48,6 @@ impl Same for Text {
     }
 }
 
-fn is_nil(case: Case) -> bool
-    ensures { result ≡ is_nil case }
-{
-    matches!(case, Case::Nil)
-}
-
 impl<K: Same> Same for Optional<K> {
     ghost alike = { λ k. same_option (K.Same.alike k.0) };
 
@@ -62,13 +56,11 @@ impl<K: Same> Same for Optional<K> {
     fn is_same(&self, a: Reply<'_>, b: Reply<'_>) -> bool {
         let x = a.unwrapped();
         let y = b.unwrapped();
-        if is_nil(x.case()) {
-            return is_nil(y.case());
+        match (x.case(), y.case()) {
+            (Case::Nil, Case::Nil) => true,
+            (Case::Nil, _) | (_, Case::Nil) => false,
+            _ => self.0.is_same(x, y),
         }
-        if is_nil(y.case()) {
-            return false;
-        }
-        self.0.is_same(x, y)
     }
 }
 
@@ -80,9 +72,7 @@ impl<A: Same, B: Same> Same for (A, B) {
     fn is_same(&self, a: Reply<'_>, b: Reply<'_>) -> bool {
         let mut xs = a.unwrapped().flat();
         let mut ys = b.unwrapped().flat();
-        let first = same_next(&self.0, &mut xs, &mut ys);
-        let second = same_next(&self.1, &mut xs, &mut ys);
-        first && second
+        same_next(&self.0, &mut xs, &mut ys) && same_next(&self.1, &mut xs, &mut ys)
     }
 }
 
@@ -94,10 +84,9 @@ impl<A: Same, B: Same, C: Same> Same for (A, B, C) {
     fn is_same(&self, a: Reply<'_>, b: Reply<'_>) -> bool {
         let mut xs = a.unwrapped().flat();
         let mut ys = b.unwrapped().flat();
-        let first = same_next(&self.0, &mut xs, &mut ys);
-        let second = same_next(&self.1, &mut xs, &mut ys);
-        let third = same_next(&self.2, &mut xs, &mut ys);
-        first && second && third
+        same_next(&self.0, &mut xs, &mut ys)
+            && same_next(&self.1, &mut xs, &mut ys)
+            && same_next(&self.2, &mut xs, &mut ys)
     }
 }
 
@@ -109,10 +98,9 @@ impl<A: Same, B: Same, C: Same, D: Same> Same for (A, B, C, D) {
     fn is_same(&self, a: Reply<'_>, b: Reply<'_>) -> bool {
         let mut xs = a.unwrapped().flat();
         let mut ys = b.unwrapped().flat();
-        let first = same_next(&self.0, &mut xs, &mut ys);
-        let second = same_next(&self.1, &mut xs, &mut ys);
-        let third = same_next(&self.2, &mut xs, &mut ys);
-        let fourth = same_next(&self.3, &mut xs, &mut ys);
-        first && second && third && fourth
+        same_next(&self.0, &mut xs, &mut ys)
+            && same_next(&self.1, &mut xs, &mut ys)
+            && same_next(&self.2, &mut xs, &mut ys)
+            && same_next(&self.3, &mut xs, &mut ys)
     }
 }

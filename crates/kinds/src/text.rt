@@ -11,6 +11,7 @@ use crate::fault_at::refuse;
 use reply::Reply;
 
 /// The text of a reply other than an integer.
+// kept: its clause speaks of the kinds' `text_in`, which `reply` doesn't know
 pub fn text_of<'a>(reply: Reply<'a>) -> &'a [u8]
     ensures { case_at (node_of reply.entry) ≢ Int → result.now ≡ text_in (node_of reply.entry) }
 {
@@ -21,6 +22,7 @@ pub fn text_of<'a>(reply: Reply<'a>) -> &'a [u8]
 pub(crate) fn check_utf8(reply: Reply<'_>, text: &[u8]) -> Result<(), Fault>
     ensures { result ≡ utf8_by (spot_of (node_of reply.entry)) (ill_formed text.now) (Ok tt) }
 {
+    // kept: the place is what there is where it is refused, so that `ok_or` would be the other way round
     match utf8::ill_formed(text) {
         None => Ok(()),
         Some(_) => Err(refuse(ElementReason::NotUtf8, reply)),

@@ -46,8 +46,7 @@ fn is_tuple(reply: Reply<'_>, beside: usize) -> bool
 fn is_one_and(items: Items<'_>, beside: usize) -> bool
     ensures { result ≡ (length (nodes_of items.entry) == suc beside) }
 {
-    let count = items.len();
-    count > 0 && count - 1 == beside
+    items.len().checked_sub(1) == Some(beside)
 }
 
 /// The tuple that a reply is.
