@@ -1,2 +1,3 @@
 pub mod SameTexts
 pub mod Refusals
+pub mod Anys

@@ -73,12 +73,8 @@ pub fn tuple_flat<T: Tuple>(tuple: &T, items: Items<'_>) -> bool
     ensures { result ≡ tuple_flat (T.Tuple.beside tuple.now) (nodes_of items.entry) }
 {
     let beside = tuple.beside_first();
-    for reply in items {
-        if !is_tuple(reply, beside) {
-            return true;
-        }
-    }
-    false
+    let mut rest = items;
+    rest.any(|reply| !is_tuple(reply, beside))
 }
 
 /// The tuple of the next cut of a list whose first reply is at a place.
