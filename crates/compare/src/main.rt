@@ -49,7 +49,8 @@ fn answer_line(heap: Global, line: &[u8]) -> Result<Answer, AllocError>
 fn main(rt: HostRuntime) -> io::Result<()> {
     let mut input = BufReader::new(rt.alloc(), rt.stdin())?;
     let mut line = Vec::new(rt.alloc());
-    // kept: a `while` over the reads needs a measure, and nothing says how much is left of the input
+    // kept: a `while` over the reads needs a measure, and nothing says how much is left of the input; the reader's `split` takes
+    // memory for each line anew
     for _ in 0..u64::MAX {
         line.clear();
         if input.read_until(b'\n', &mut line)? == 0 {

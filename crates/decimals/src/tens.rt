@@ -26,7 +26,8 @@ pub fn round_once(negative: bool, digits: u64, power: i128) -> Result<f64, Float
 }
 
 /// The float of `digits`, with a minus where it is `negative`.
-// kept: one function for this and for the integers' `with_sign` is no plainer: its contract would need a law of negation
+// kept: one function for this and for the integers' `with_sign` could only promise what the type's minus gives, and each caller
+// would have to show what that is
 fn signed_float(negative: bool, digits: u64) -> f64
     requires { digits ≤ 2 ^ 53 }
     ensures { HasValue result negative digits 1 }

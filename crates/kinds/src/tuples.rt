@@ -8,7 +8,7 @@ use crate::tuple::{Tuple, tuple_flat, tuple_join};
 use reply::{Items, Reply, Spot};
 
 // kept: an impl for each count of parts, here and wherever tuples are spoken of: no type stands for tuples of any count, and
-// an impl that a macro writes isn't taken
+// an impl that a macro writes isn't taken; one impl of `Rows` over all tuples would conflict with that over what is `Single`
 
 impl<A: FromRedisValue, B: FromRedisValue> Tuple for (A, B) {
     type Value = (A::Value, B::Value);
