@@ -79,28 +79,30 @@ impl fmt::Display for Indent {
     }
 }
 
-// kept: not a view's text, which leaves out the format of a verbatim string
 /// Where the second line of a reply starts, or 1 past its first byte if it has none that counts.
 fn content_start(reply: &[u8]) -> usize {
     match reply {
         [b'$' | b'!' | b'=', ..] => {
-            match reply.iter().position(|byte| *byte == b'\n') {
-                Some(place) => place + 1,
-                None => reply.len(),
-            }
+            let lf = reply.iter().position(|byte| *byte == b'\n');
+            lf.map_or(reply.len(), |place| place + 1)
         }
         _ => 1,
     }
 }
 
 /// What a leaf says: the content of its line, or its body.
+// kept: not a view's text, which leaves out the format of a verbatim string
 fn content(reply: &[u8]) -> &[u8] {
-    let start = content_start(reply);
     let end = reply.len().saturating_sub(2);
-    if start > end {
-        return &reply[0..0];
-    }
-    &reply[start..end]
+    reply.get(content_start(reply)..end).unwrap_or_default()
+}
+
+/// Whether a reply of that case is listed with what it says.
+fn has_content(case: Case) -> bool {
+    !matches!(
+        case,
+        Case::Nil | Case::Okay | Case::Array | Case::Set | Case::Map | Case::Push | Case::Attribute
+    )
 }
 
 /// One line of the report for each note.
@@ -112,22 +114,12 @@ fn print_note(rt: &HostRuntime, bytes: &[u8], note: &Note) -> anyhow::Result<()>
         case: note.case,
         items: note.items,
     };
-    if note.items > 0 || note.at > note.end || note.end > bytes.len() {
-        println!(rt; "{indent}at {at}, {length} bytes: {words}")?;
-        return Ok(());
-    }
-    let text = Shown(content(&bytes[note.at..note.end]));
-    match note.case {
-        Case::Nil
-        | Case::Okay
-        | Case::Array
-        | Case::Set
-        | Case::Map
-        | Case::Push
-        | Case::Attribute => {
-            println!(rt; "{indent}at {at}, {length} bytes: {words}")?;
+    match bytes.get(note.at..note.end) {
+        Some(reply) if has_content(note.case) => {
+            let text = Shown(content(reply));
+            println!(rt; "{indent}at {at}, {length} bytes: {words} {text}")?;
         }
-        _ => println!(rt; "{indent}at {at}, {length} bytes: {words} {text}")?,
+        _ => println!(rt; "{indent}at {at}, {length} bytes: {words}")?,
     }
     Ok(())
 }
