@@ -1,4 +1,4 @@
-ghost use Rattle.std.specs.Prelude.{◌≡◌, ◌+◌, ◌-◌, ◌^◌, ◌<◌, ◌≤◌, length, drop};
+ghost use Rattle.std.specs.Prelude.{◌≡◌, ◌+◌, ◌-◌, ◌≤◌, length, drop};
 ghost use Rattle.resp.specs.Reading.{body, text};
 ghost use Rattle.resp.specs.Told.{Ends, Lines, Told, body_end, held, left_after};
 
@@ -7,10 +7,11 @@ use crate::fault::{WireFault, WireReason};
 use utf8::ill_formed;
 
 /// Where the body of `n` bytes at `from` ends, once all of it is there: the place of its CR LF.
-fn body_end(bytes: &[u8], from: usize, n: usize) -> Result<usize, WireFault>
-    requires { (from ≤ length bytes.now) × (n < 2 ^ 32) }
+fn body_end(bytes: &[u8], from: usize, n: u32) -> Result<usize, WireFault>
+    requires { from ≤ length bytes.now }
     ensures { result ≡ body_end bytes.now from n }
 {
+    let n = n as usize;
     if bytes.len() - from < n + 2 {
         return Err(WireReason::NotWhole.at(bytes.len()));
     }
@@ -23,8 +24,8 @@ fn body_end(bytes: &[u8], from: usize, n: usize) -> Result<usize, WireFault>
 }
 
 /// The body of `n` bytes at `from`.
-pub(crate) fn body(bytes: &[u8], from: usize, n: usize) -> Result<Closed<'_>, WireFault>
-    requires { (from ≤ length bytes.now) × (n < 2 ^ 32) }
+pub(crate) fn body(bytes: &[u8], from: usize, n: u32) -> Result<Closed<'_>, WireFault>
+    requires { from ≤ length bytes.now }
     ensures { Told (Lines bytes.now from) bytes.now (body n (drop from bytes.now)) result }
 {
     let end = body_end(bytes, from, n)?;

@@ -1,4 +1,4 @@
-ghost use Rattle.std.specs.Prelude.{◌≡◌, ◌^◌, ◌<◌, IsTrue};
+ghost use Rattle.std.specs.Prelude.{◌≡◌, IsTrue};
 ghost use Rattle.resp.specs.Reading.{head};
 ghost use Rattle.resp.specs.Told.{Opens, Tells, counting, is_counted, items_in, leaf_opening, most_of};
 
@@ -23,9 +23,8 @@ fn leaf(end: Result<usize, WireFault>) -> Result<Opening, WireFault>
 
 impl Kind {
     /// The most that a collection of the kind counts: pairs of a map or an attribute, items of any other.
-    fn most(self) -> u64
-        ensures limit { result ≡ most_of self }
-        ensures small { result < 2 ^ 32 }
+    fn most(self) -> u32
+        ensures { result ≡ most_of self }
     {
         match self {
             Kind::Map | Kind::Attribute => PAIRS_MOST,
@@ -34,10 +33,10 @@ impl Kind {
     }
 
     /// How many replies stand right below a collection that counts so many. An attribute's pairs are followed by the reply that they are about.
-    fn items(self, count: usize) -> usize
-        requires { count < 2 ^ 32 }
+    fn items(self, count: u32) -> usize
         ensures { result ≡ items_in (counting self count) }
     {
+        let count = count as usize;
         match self {
             Kind::Map => 2 * count,
             Kind::Attribute => 2 * count + 1,
@@ -52,7 +51,7 @@ impl<'a> Item<'a> {
     {
         let Size { count, start } = self.size_or_null(ITEMS_MOST)?;
         Ok(Opening {
-            items: count.unwrap_or(0),
+            items: count.unwrap_or(0) as usize,
             named: false,
             start,
         })
