@@ -49,7 +49,7 @@ module _ (bs : List ℕ) (at n : ℕ) (e : Left bs at n) where
   after_cr lt b = ap (line (drop at bs) (1024 - n)) (drop_more bs (at + 1 + n) 0 lt) ∙ line_cr (drop at bs) (1024 - n) (get_or bs (at + 1 + n) 0) (drop (at + 1 + n + 1) bs) b
 
   pub told_cr_lf : (v : Closed) → v.bytes.now ≡ bs → v.from ≡ at + 1 → v.end ≡ at + 1 + n → at + 1 + n + 1 < length bs → get_or bs (at + 1 + n) 0 ≡ 13 → get_or bs (at + 1 + n + 1) 0 ≡ 10
-      → Told (Lines bs (at + 1)) bs (line (drop at bs) 1024 (drop (at + 1) bs)) (Ok v)
+      → Told (Lines bs) bs (line (drop at bs) 1024 (drop (at + 1) bs)) (Ok v)
   told_cr_lf v bytes from end lt b lf =
       let l = drop (at + 1) bs in
       let k = drop_more bs (at + 1 + n + 1) 0 lt in
@@ -61,7 +61,6 @@ module _ (bs : List ℕ) (at n : ℕ) (e : Left bs at n) where
       rw w
       (record {
         bytes = bytes;
-        from = from;
         content = append-nil (take n l) ∙ ap₂ take (sym sub) (ap₂ drop (sym from) (sym bytes));
         after = ap₂ drop two (sym bytes);
       })

@@ -39,10 +39,9 @@ held v = slice_range v.bytes.now v.from v.end
 abbrev pub left_after : Closed → List ℕ
 left_after v = drop (v.end + 2) v.bytes.now
 
--- of the bytes bs from `at` on, c was read and `rest` is left: they are what the content v holds, and what follows it
-pub record Lines (bs : List ℕ) (at : ℕ) (c rest : List ℕ) (v : Closed) : Type 0 where
+-- of the bytes bs c was read and `rest` is left: they are what the content v holds, and what follows it
+pub record Lines (bs c rest : List ℕ) (v : Closed) : Type 0 where
   pub bytes : v.bytes.now ≡ bs
-  pub from : v.from ≡ at
   pub content : c ≡ held v
   pub after : rest ≡ left_after v
 

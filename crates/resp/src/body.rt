@@ -26,7 +26,7 @@ fn body_end(bytes: &[u8], from: usize, n: u32) -> Result<usize, WireFault>
 /// The body of `n` bytes at `from`.
 pub(crate) fn body(bytes: &[u8], from: usize, n: u32) -> Result<Closed<'_>, WireFault>
     requires { from ≤ length bytes.now }
-    ensures { Told (Lines bytes.now from) bytes.now (body n (drop from bytes.now)) result }
+    ensures { Told (Lines bytes.now) bytes.now (body n (drop from bytes.now)) result }
 {
     let end = body_end(bytes, from, n)?;
     Ok(Closed { bytes, from, end })

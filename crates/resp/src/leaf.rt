@@ -2,9 +2,10 @@ ghost use Rattle.std.specs.Prelude.{◌≡◌, is_some};
 ghost use Rattle.resp.specs.Limits.{length_most};
 ghost use Rattle.resp.specs.Out.{and_then};
 ghost use Rattle.resp.specs.Reading.{body, boolean_leaf, bulk, is_verbatim, leaf_of, lined, size as sized, size_or_null, text, text_line, verbatim};
-ghost use Rattle.resp.specs.Told.{Ends, Tells};
+ghost use Rattle.resp.specs.Told.{Ends, Lines, Tells};
 
 use crate::body::body;
+use crate::closed::Closed;
 use crate::fault::{WireFault, WireReason};
 use crate::item::Item;
 use crate::kind::Kind;
@@ -60,6 +61,15 @@ impl<'a> Item<'a> {
         self.line()?.text_end()
     }
 
+    /// The body of the length that the item tells.
+    #[inline]
+    fn sized_body(self) -> Result<Closed<'a>, WireFault>
+        ensures { Tells Lines (λ s bs. and_then (sized length_most s bs) body) self.entry result }
+    {
+        let Size { count, start } = self.size(LENGTH_MOST)?;
+        body(self.bytes, start, count)
+    }
+
     /// Where a bulk string ends.
     pub(crate) fn bulk_string(self) -> Result<usize, WireFault>
         ensures { Tells Ends (λ s bs. and_then (size_or_null length_most s bs) bulk) self.entry result }
@@ -75,16 +85,14 @@ impl<'a> Item<'a> {
     pub(crate) fn bulk_error(self) -> Result<usize, WireFault>
         ensures { Tells Ends (λ s bs. and_then (sized length_most s bs) (λ n more. and_then (body n more) text)) self.entry result }
     {
-        let Size { count, start } = self.size(LENGTH_MOST)?;
-        body(self.bytes, start, count)?.text_end()
+        self.sized_body()?.text_end()
     }
 
     /// Where a verbatim string ends.
     pub(crate) fn verbatim_string(self) -> Result<usize, WireFault>
         ensures { Tells Ends (λ s bs. and_then (sized length_most s bs) (λ n more. and_then (body n more) (verbatim s))) self.entry result }
     {
-        let Size { count, start } = self.size(LENGTH_MOST)?;
-        let body = body(self.bytes, start, count)?;
+        let body = self.sized_body()?;
         if has_format(body.held()) {
             body.text_end()
         } else {

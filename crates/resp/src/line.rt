@@ -1,4 +1,3 @@
-ghost use Rattle.std.specs.Prelude.{◌+◌};
 ghost use Rattle.resp.specs.Limits.{line_most};
 ghost use Rattle.resp.specs.Reading.{line};
 ghost use Rattle.resp.specs.Told.{Lines, Tells};
@@ -11,7 +10,7 @@ use crate::limits::LINE_MOST;
 impl<'a> Item<'a> {
     /// The item's line, whose content starts after the item's first byte.
     pub(crate) fn line(self) -> Result<Closed<'a>, WireFault>
-        ensures { Tells (λ bs. Lines bs (self.entry.at + 1)) (λ s. line s line_most) self.entry result }
+        ensures { Tells Lines (λ s. line s line_most) self.entry result }
     {
         let from = self.at + 1;
         // kept: `position` would give the first of both ends, and that byte and the limit would have to be asked again
