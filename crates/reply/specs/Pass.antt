@@ -1,5 +1,5 @@
 -- How an item is passed by its first byte and its first line alone. Nothing of it is judged: what is said here is right of whole items.
-use Rattle.std.specs.Prelude.{ℕ, ◌+◌, ◌-◌, ◌*◌, ◌^◌, ◌<◌, min, Bool, cond, ◌||◌, List, [], ◌∷◌, length, take, Some, None, Option, ◌==◌, nat_lt}
+use Rattle.std.specs.Prelude.{ℕ, ◌+◌, ◌-◌, ◌*◌, ◌^◌, min, Bool, cond, ◌||◌, List, [], ◌∷◌, length, take, Some, None, Option, ◌==◌, nat_lt}
 use Rattle.numerals.specs.Plain.{capped}
 use Rattle.reply.specs.declared.pass.Following.{Following}
 use Rattle.reply.specs.declared.pass.Passed.{Passed}
@@ -12,10 +12,6 @@ short (Some n) = cond (nat_lt n (2 ^ 32)) (Some n) None
 
 abbrev pub counted : List ℕ → Option ℕ
 counted c = short (capped c)
-
-abbrev pub Small : Option ℕ → Type 0
-Small None = Unit {0}
-Small (Some n) = n < 2 ^ 32
 
 -- the first bytes $ ! = * ~ > % |
 abbrev pub tells : ℕ → Bool

@@ -1,5 +1,5 @@
-ghost use Rattle.std.specs.Prelude.{◌≡◌, ◌-◌, ◌^◌, ◌<◌, ◌≤◌, length, take, drop};
-ghost use Rattle.reply.specs.Pass.{Small, counted, followed_by, passed_of, tells, told_count};
+ghost use Rattle.std.specs.Prelude.{◌≡◌, ◌-◌, ◌≤◌, length, take, drop};
+ghost use Rattle.reply.specs.Pass.{counted, followed_by, passed_of, tells, told_count};
 
 use crate::line::after_lf;
 use numerals::plain_number;
@@ -11,6 +11,9 @@ pub struct Following {
     pub items: usize,
 }
 
+/// Nothing follows a line that is a whole item.
+const NOTHING: Following = Following { body: 0, items: 0 };
+
 /// An item passed by: its bytes up to its parts, and how many replies are right below it.
 #[derive(Clone, Copy)]
 pub struct Passed {
@@ -19,13 +22,10 @@ pub struct Passed {
 }
 
 /// The number of a line, if 32 bits hold it.
-fn count(content: &[u8]) -> Option<usize>
+fn count(content: &[u8]) -> Option<u32>
     ensures { result ≡ counted content.now }
 {
-    match plain_number(content) {
-        Some(n) if n < 1 << 32 => Some(n as usize),
-        _ => None,
-    }
+    u32::try_from(plain_number(content)?).ok()
 }
 
 /// Whether the line after a first byte tells a length or a count.
@@ -36,7 +36,7 @@ fn tells_count(first: u8) -> bool
 }
 
 /// The length or count that an item's first line tells, if it tells one.
-fn told_count(first: u8, content: &[u8]) -> Option<usize>
+fn told_count(first: u8, content: &[u8]) -> Option<u32>
     ensures { result ≡ told_count first content.now }
 {
     if tells_count(first) {
@@ -47,13 +47,13 @@ fn told_count(first: u8, content: &[u8]) -> Option<usize>
 }
 
 /// What follows a first line.
-fn follows(first: u8, count: Option<usize>) -> Following
-    requires { Small count }
+fn follows(first: u8, count: Option<u32>) -> Following
     ensures { result ≡ followed_by first count }
 {
     let Some(n) = count else {
-        return Following { body: 0, items: 0 };
+        return NOTHING;
     };
+    let n = n as usize;
     match first as char {
         '$' | '!' | '=' => Following {
             body: n + 2,
@@ -68,7 +68,7 @@ fn follows(first: u8, count: Option<usize>) -> Following
             body: 0,
             items: 2 * n + 1,
         },
-        _ => Following { body: 0, items: 0 },
+        _ => NOTHING,
     }
 }
 
@@ -87,15 +87,13 @@ fn content(item: &[u8], line: usize) -> &[u8]
 pub(crate) fn pass(item: &[u8]) -> Passed
     ensures { result ≡ passed_of item.now }
 {
-    let length = item.len();
-    if length == 0 {
+    let [first, ..] = item else {
         return Passed { len: 0, items: 0 };
-    }
+    };
     let line = after_lf(item);
-    let Following { body, items } = follows(item[0], told_count(item[0], content(item, line)));
-    let end = line.saturating_add(body);
-    if end > length {
-        return Passed { len: length, items };
+    let Following { body, items } = follows(*first, told_count(*first, content(item, line)));
+    Passed {
+        len: line.saturating_add(body).min(item.len()),
+        items,
     }
-    Passed { len: end, items }
 }
