@@ -12,6 +12,7 @@ fn first_lf(bytes: &[u8]) -> Option<usize>
 pub(crate) fn after_lf(bytes: &[u8]) -> usize
     ensures { result ≡ after_lf bytes.now }
 {
+    // kept: tried as `map_or`, but the two cases of its answer did not prove by themselves any more
     match first_lf(bytes) {
         Some(place) => place + 1,
         None => bytes.len(),
