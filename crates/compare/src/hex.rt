@@ -5,6 +5,8 @@ ghost use Rattle.compare.specs.Hex.{Writes, SpellsAt, Spelled, Unspelled};
 use std::alloc::{AllocError, AllocFailed, Global};
 
 /// Why a text gives no bytes.
+// kept: reading hex knows nothing of lines; and what the library's `hex` answers would have to be shown to be what a text spells,
+// which is as long as this
 #[derive(Clone, Copy, PartialEq, Eq, Debug)]
 pub enum HexError {
     /// An odd count of digits.

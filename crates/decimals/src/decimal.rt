@@ -37,6 +37,7 @@ fn is_spelled(text: &[u8], word: &[u8]) -> bool
 }
 
 /// The float of the number that `text` writes without a sign, with a minus where it is `negative`.
+// kept: the sign goes with the digits, since what float they are is said of both; put on after, a minus would need laws of its own
 fn read_number(negative: bool, text: &[u8]) -> Result<f64, FloatFault>
     ensures { result ≡ answer (said negative (number_in text.now)) }
 {

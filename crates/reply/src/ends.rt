@@ -5,13 +5,14 @@ use crate::open::singles;
 use crate::pass::{Passed, pass};
 use crate::view::{Items, Reply};
 
+// kept: bytes and a place, since the premise is asked of a row of single replies, which no view of pairs is
 /// Where so many whole replies, one after another, end. It passes item after item, and looks at no text.
 fn replies_end(bytes: &[u8], at: usize, replies: usize) -> usize
     ensures { at ≤ length bytes.now → wholly_row bytes.now false at replies ≡ true → RowEnded bytes.now false at replies result }
 {
     let mut end = at;
     let mut left = replies;
-    // kept: each item opens more that is left, so that no range and no iterator knows how many come
+    // kept: each item may add to what is left, so that no range and no iterator knows how many come
     while left > 0 {
         if end >= bytes.len() {
             return end;

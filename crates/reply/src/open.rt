@@ -8,7 +8,7 @@ use crate::view::{Items, Reply};
 use resp::Case;
 
 /// Where a row of replies or of pairs begins, and how many there are.
-// kept: as `Items` it would have to be known as whole before the first of it is
+// kept: beside `Items`, which can be made only of what is known to be whole
 #[derive(Clone, Copy, PartialEq, Eq, Debug)]
 pub struct Row {
     pub at: usize,

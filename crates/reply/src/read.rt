@@ -126,7 +126,7 @@ impl<'a> Reply<'a> {
             return Case::Map;
         }
         let at = self.at;
-        case_of(&self.bytes[at..]).unwrap_or(Case::Nil)
+        case_of(&self.bytes[at..]).unwrap()
     }
 }
 

@@ -6,6 +6,7 @@ use crate::closed::Closed;
 use crate::fault::{WireFault, WireReason};
 use utf8::ill_formed;
 
+// kept: bytes and a place, here and in `body`, since a body may begin where the bytes end, and then has no item
 /// Where the body of `n` bytes at `from` ends, once all of it is there: the place of its CR LF.
 fn body_end(bytes: &[u8], from: usize, n: u32) -> Result<usize, WireFault>
     requires { from ≤ length bytes.now }

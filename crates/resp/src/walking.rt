@@ -10,7 +10,8 @@ use crate::limits::DEEPEST;
 use crate::opening::Opening;
 
 /// The item at `at` up to its parts, where so many levels are left.
-// kept: bytes and a place, here and below, since the place may be past the last byte, where no item is
+// kept: bytes and a place, here and below, since the place may be past the last byte, where no item is, and a struct of the two
+// without that would say no more
 pub(crate) fn open_at(bytes: &[u8], at: usize, depth_left: usize) -> Result<Opening, WireFault>
     ensures { Told (Opens bytes.now) bytes.now (opening_from depth_left bytes.now at) result }
 {
@@ -35,6 +36,7 @@ pub fn open_item(bytes: &[u8]) -> Result<Opening, WireFault>
 fn is_string(reply: &[u8]) -> bool
     ensures { result ≡ starts_string reply.now }
 {
+    // kept: two bytes tell it, where `case_of` would tell all cases apart
     match reply {
         [b'+', ..] => true,
         [b'$', next, ..] => *next != b'-',

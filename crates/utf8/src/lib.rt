@@ -129,7 +129,7 @@ pub fn ill_formed(text: &[u8]) -> Option<usize>
     ensures located { Located text.now (ill_formed text.now) result }
     ensures tells { Tells text.now result }
 {
-    // kept: `try_fold` is no plainer: a byte that passes would have to hand the state on, and the result be matched for two verdicts
+    // kept: `try_fold` is no plainer: a byte that passes would hand the state on, and the result be matched for two verdicts
     let mut state = State::new();
     for (i, byte) in text.iter().enumerate() {
         if state.passes(*byte) {
