@@ -75,10 +75,7 @@ fn fill_left<C: Collection>(shape: &C, cursor: Cursor<'_>, table: &mut [C::Row])
 {
     let mut rest = cursor;
     for slot in table.iter_mut() {
-        let Some(row) = shape.advance(&mut rest) else {
-            return;
-        };
-        let Ok(value) = row else {
+        let Some(Ok(value)) = shape.advance(&mut rest) else {
             return;
         };
         *slot = value;
