@@ -3,8 +3,7 @@ ghost use Rattle.reply.specs.View.{node_of, nodes_of};
 ghost use Rattle.collections.specs.Picks.{NamedAs, Under, found_nodes, is_named, last_named, value_under};
 
 use crate::entry::Entries;
-use crate::map::entries_of;
-use crate::map_steps::check_entries;
+use crate::map::{MapOf, entries_of};
 use kinds::{Fault, FromRedisValue, Text, Value};
 use reply::{Items, Reply};
 
@@ -33,7 +32,7 @@ fn value_under<'a>(reply: Reply<'a>, name: &[u8]) -> Result<Option<Reply<'a>>, F
     ensures { NamedAs (value_under name.now (node_of reply.entry)) result }
 {
     let items = entries_of(reply)?;
-    check_entries(&Text, &Value, items)?;
+    MapOf(Text, Value).check_entries(items)?;
     Ok(last_named(items, name))
 }
 

@@ -39,7 +39,7 @@ impl<K: Rows> Collection for ListOf<K> {
     fn advance(&self, cursor: &mut Cursor<'_>) -> Option<Result<K::Value, Fault>> {
         match cursor {
             Cursor::Each(rest) => next_each(&self.0, rest),
-            Cursor::Cut(cuts) => next_cut(&self.0, cuts.first, &mut cuts.rest),
+            Cursor::Cut(cuts) => next_cut(&self.0, cuts),
             Cursor::Bytes(text) => {
                 let (byte, others) = text.split_first()?;
                 let value = self.0.of_byte(*byte)?;

@@ -4,6 +4,7 @@ ghost use Rattle.reply.specs.Parts.{spot_of};
 ghost use Rattle.reply.specs.View.{nodes_of};
 ghost use Rattle.collections.specs.Steps.{Falls, Steps};
 
+use crate::cursor::Cuts;
 use kinds::{Fault, FromRedisValue, Rows};
 use reply::{Items, Spot};
 
@@ -22,17 +23,16 @@ pub(crate) fn next_each<K: FromRedisValue>(
 /// The next cut as a row.
 pub(crate) fn next_cut<K: Rows>(
     kind: &K,
-    first: Spot,
-    rest: &mut Items<'_>,
+    left: &mut Cuts<'_>,
 ) -> Option<Result<K::Value, Fault>>
-    ensures step { Steps (many_by (K.Rows.joined kind.now first) (cuts (K.Rows.more kind.now) (nodes_of rest.old))) result (many_by (K.Rows.joined kind.now first) (cuts (K.Rows.more kind.now) (nodes_of rest.new))) }
-    ensures falls { Falls rest.old.left result rest.new.left }
+    ensures step { Steps (many_by (K.Rows.joined kind.now left.old.first) (cuts (K.Rows.more kind.now) (nodes_of left.old.rest))) result (many_by (K.Rows.joined kind.now left.new.first) (cuts (K.Rows.more kind.now) (nodes_of left.new.rest))) }
+    ensures falls { Falls left.old.rest.left result left.new.rest.left }
 {
-    if rest.len() == 0 {
+    if left.rest.len() == 0 {
         return None;
     }
-    let row = kind.join(first, rest);
-    let _left = rest.len();
+    let row = kind.join(left.first, &mut left.rest);
+    let _left = left.rest.len();
     Some(row)
 }
 

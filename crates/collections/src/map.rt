@@ -7,7 +7,6 @@ use crate::collection::Collection;
 use crate::cursor::Cursor;
 use crate::inside::read_listed;
 use crate::listed::Listed;
-use crate::map_steps::{check_entries, next_key};
 use kinds::{ElementReason, Fault, FromRedisValue, Same, Single, refuse};
 use reply::{Items, Reply};
 use resp::Case;
@@ -38,15 +37,13 @@ impl<K: Same, V: FromRedisValue> Collection for MapOf<K, V> {
 
     fn begin<'a>(&self, reply: Reply<'a>) -> Result<Cursor<'a>, Fault> {
         let items = entries_of(reply)?;
-        check_entries(&self.0, &self.1, items)?;
+        self.check_entries(items)?;
         Ok(Cursor::distinct(items))
     }
 
     fn advance(&self, cursor: &mut Cursor<'_>) -> Option<Result<(K::Value, V::Value), Fault>> {
         match cursor {
-            Cursor::Distinct(classes) => {
-                next_key(&self.0, &self.1, classes.all, &mut classes.rest)
-            }
+            Cursor::Distinct(classes) => self.next_key(classes),
             _ => None,
         }
     }

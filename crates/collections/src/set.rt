@@ -35,7 +35,7 @@ impl<K: Same> Collection for SetOf<K> {
 
     fn advance(&self, cursor: &mut Cursor<'_>) -> Option<Result<K::Value, Fault>> {
         match cursor {
-            Cursor::Distinct(classes) => next_first(&self.0, classes.all, &mut classes.rest),
+            Cursor::Distinct(classes) => next_first(&self.0, classes),
             _ => None,
         }
     }

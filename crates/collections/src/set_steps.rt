@@ -4,6 +4,7 @@ ghost use Rattle.reply.specs.View.{node_of, nodes_of};
 ghost use Rattle.collections.specs.Sets.{firsts_in, seen_in};
 ghost use Rattle.collections.specs.Steps.{Falls, Steps, judged};
 
+use crate::cursor::Classes;
 use kinds::{Fault, FromRedisValue, Same};
 use reply::{Items, Reply};
 
@@ -22,16 +23,15 @@ fn is_seen<K: Same>(kind: &K, all: Items<'_>, count: usize, reply: Reply<'_>) ->
 /// The next reply that is like none before it, as a row.
 pub(crate) fn next_first<K: Same>(
     kind: &K,
-    all: Items<'_>,
-    rest: &mut Items<'_>,
+    classes: &mut Classes<'_>,
 ) -> Option<Result<K::Value, Fault>>
-    ensures step { Steps (many_by (K.FromRedisValue.one kind.now) (firsts_in (K.Same.alike kind.now) (nodes_of all.entry) (nodes_of rest.old))) result (many_by (K.FromRedisValue.one kind.now) (firsts_in (K.Same.alike kind.now) (nodes_of all.entry) (nodes_of rest.new))) }
-    ensures falls { Falls rest.old.left result rest.new.left }
+    ensures step { Steps (many_by (K.FromRedisValue.one kind.now) (firsts_in (K.Same.alike kind.now) (nodes_of classes.old.all) (nodes_of classes.old.rest))) result (many_by (K.FromRedisValue.one kind.now) (firsts_in (K.Same.alike kind.now) (nodes_of classes.new.all) (nodes_of classes.new.rest))) }
+    ensures falls { Falls classes.old.rest.left result classes.new.rest.left }
 {
     loop {
-        let before = all.len().saturating_sub(rest.len());
-        let reply = rest.next()?;
-        if !is_seen(kind, all, before, reply) {
+        let before = classes.all.len().saturating_sub(classes.rest.len());
+        let reply = classes.rest.next()?;
+        if !is_seen(kind, classes.all, before, reply) {
             return Some(kind.from_redis_value(reply));
         }
     }
