@@ -1,3 +1,4 @@
+pub mod Anys
 pub mod TableSteps
 pub mod CutSteps
 pub mod ListSteps

@@ -8,26 +8,17 @@ use Rattle.collections.specs.Sets.{seen_in}
 use Rattle.collections.specs.Steps.{Steps}
 
 module _ (alike : Node → Node → Bool) (x : Node) where
-  open_seen : (k j : ℕ) (n : Node) (ns ms : List Node) → j + 1 ≡ k → ns ≡ n ∷ ms → seen_in alike x (take k ns) ≡ (alike n x || seen_in alike x (take j ms))
-  open_seen k j n ns ms h e = let z : k ≡ suc j = omega arith in ap (λ l. seen_in alike x (take k l)) e ∙ ap (λ i. seen_in alike x (take i (n ∷ ms))) z
+  pub seen_more : (k j : ℕ) (n : Node) (ns ms : List Node) → j + 1 ≡ k → ns ≡ n ∷ ms → seen_in alike x (take k ns) ≡ (alike n x || seen_in alike x (take j ms))
+  seen_more k j n ns ms h e = let z : k ≡ suc j = omega arith in ap (λ l. seen_in alike x (take k l)) e ∙ ap (λ i. seen_in alike x (take i (n ∷ ms))) z
 
-  pub seen_here : (k j : ℕ) (n : Node) (ns ms : List Node) → j + 1 ≡ k → ns ≡ n ∷ ms → true ≡ alike n x → true ≡ seen_in alike x (take k ns)
-  seen_here k j n ns ms h e t = sym (open_seen k j n ns ms h e ∙ ap (λ b. b || seen_in alike x (take j ms)) (sym t))
-
-  pub seen_next : (k j : ℕ) (n : Node) (ns ms : List Node) → j + 1 ≡ k → ns ≡ n ∷ ms → false ≡ alike n x → seen_in alike x (take k ns) ≡ seen_in alike x (take j ms)
-  seen_next k j n ns ms h e t = open_seen k j n ns ms h e ∙ ap (λ b. b || seen_in alike x (take j ms)) (sym t)
+  pub seen_none : (k : ℕ) (ns : List Node) → (0 < k → ns ≡ []) → seen_in alike x (take k ns) ≡ false
+  seen_none zero ns h = refl
+  seen_none (suc k) ns h = ap (λ l. seen_in alike x (take (suc k) l)) (h (omega arith))
 
 module _ (alike : Node → Node → Bool) (x : Node) where
-  open_key : (k j : ℕ) (n v : Node) (ns ms : List Node) → j + 1 ≡ k → ns ≡ n ∷ v ∷ ms → seen_key alike x (take (2 * k) ns) ≡ (alike n x || seen_key alike x (take (2 * j) ms))
-  open_key k j n v ns ms h e =
+  pub key_more : (k j : ℕ) (n v : Node) (ns ms : List Node) → j + 1 ≡ k → ns ≡ n ∷ v ∷ ms → seen_key alike x (take (2 * k) ns) ≡ (alike n x || seen_key alike x (take (2 * j) ms))
+  key_more k j n v ns ms h e =
       let z : 2 * k ≡ suc (suc (2 * j)) = omega arith in ap (λ l. seen_key alike x (take (2 * k) l)) e ∙ ap (λ i. seen_key alike x (take i (n ∷ v ∷ ms))) z
-
-  pub key_here : (k j : ℕ) (n v : Node) (ns ms : List Node) → j + 1 ≡ k → ns ≡ n ∷ v ∷ ms → true ≡ alike n x → true ≡ seen_key alike x (take (2 * k) ns)
-  key_here k j n v ns ms h e t = sym (open_key k j n v ns ms h e ∙ ap (λ b. b || seen_key alike x (take (2 * j) ms)) (sym t))
-
-  pub key_next : (k j : ℕ) (n v : Node) (ns ms : List Node) → j + 1 ≡ k → ns ≡ n ∷ v ∷ ms → false ≡ alike n x
-      → seen_key alike x (take (2 * k) ns) ≡ seen_key alike x (take (2 * j) ms)
-  key_next k j n v ns ms h e t = open_key k j n v ns ms h e ∙ ap (λ b. b || seen_key alike x (take (2 * j) ms)) (sym t)
 
   key_short : (m : ℕ) (ns : List Node) → length ns < 2 → seen_key alike x (take m ns) ≡ false
   key_short zero ns h = refl

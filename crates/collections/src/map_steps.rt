@@ -14,13 +14,9 @@ use reply::{Items, Reply};
 fn is_key_seen<K: Same>(keys: &K, all: Items<'_>, count: usize, key: Reply<'_>) -> bool
     ensures { result ≡ seen_key (K.Same.alike keys.now) (node_of key.entry) (take (2 * count) (nodes_of all.entry)) }
 {
-    let entries = Entries { rest: all };
-    for earlier in entries.take(count) {
-        if keys.is_same(earlier.key, key) {
-            return true;
-        }
-    }
-    false
+    Entries { rest: all }
+        .take(count)
+        .any(|earlier| keys.is_same(earlier.key, key))
 }
 
 /// The value of the last entry whose key is like this one; `value` where there is none.

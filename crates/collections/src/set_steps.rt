@@ -12,12 +12,7 @@ use reply::{Items, Reply};
 fn is_seen<K: Same>(kind: &K, all: Items<'_>, count: usize, reply: Reply<'_>) -> bool
     ensures { result ≡ seen_in (K.Same.alike kind.now) (node_of reply.entry) (take count (nodes_of all.entry)) }
 {
-    for earlier in all.take(count) {
-        if kind.is_same(earlier, reply) {
-            return true;
-        }
-    }
-    false
+    all.take(count).any(|earlier| kind.is_same(earlier, reply))
 }
 
 /// The next reply that is like none before it, as a row.
