@@ -1,4 +1,5 @@
 pub mod Anys
+pub mod Yielded
 pub mod TableSteps
 pub mod CutSteps
 pub mod ListSteps

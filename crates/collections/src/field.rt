@@ -18,13 +18,10 @@ fn is_named(key: Reply<'_>, name: &[u8]) -> bool
 fn last_named<'a>(items: Items<'a>, name: &[u8]) -> Option<Reply<'a>>
     ensures { found_nodes result ≡ last_named name.now (nodes_of items.entry) }
 {
-    let mut last = None;
-    for entry in (Entries { rest: items }) {
-        if is_named(entry.key, name) {
-            last = Some(entry.value);
-        }
-    }
-    last
+    Entries { rest: items }
+        .filter(|entry| is_named(entry.key, name))
+        .last()
+        .map(|entry| entry.value)
 }
 
 /// The value under a name of a map, once all its entries are read as text and replies.

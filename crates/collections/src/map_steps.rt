@@ -28,13 +28,10 @@ fn last_value<'a, K: Same>(
 ) -> Reply<'a>
     ensures { node_of result ≡ last_for (K.Same.alike keys.now) (node_of key.entry) (node_of value.entry) (nodes_of items.entry) }
 {
-    let mut last = value;
-    for entry in (Entries { rest: items }) {
-        if keys.is_same(key, entry.key) {
-            last = entry.value;
-        }
-    }
-    last
+    Entries { rest: items }
+        .filter(|entry| keys.is_same(key, entry.key))
+        .last()
+        .map_or(value, |entry| entry.value)
 }
 
 impl<K: FromRedisValue, V: FromRedisValue> MapOf<K, V> {
