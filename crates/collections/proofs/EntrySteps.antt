@@ -1,21 +1,8 @@
 -- The entries of a map, read one by one up to the first refusal.
-use Rattle.std.proofs.Common.{◌≡◌, List, ◌∷◌, Ok, Err, Result, sym, refl, ap, ◌∙◌}
-use Rattle.resp.specs.Node.{Node}
+use Rattle.std.proofs.Common.{◌≡◌, List, Ok, Err, Result, refl, ap, ◌∙◌}
 use Rattle.kinds.specs.declared.fault.Fault.{Fault}
-use Rattle.kinds.specs.Rows.{and_then, onto, many_by}
-use Rattle.collections.specs.Maps.{entries}
+use Rattle.kinds.specs.Rows.{and_then}
 use Rattle.collections.specs.Steps.{judged}
-
-judged_onto : {V : Type 0} (v : V) (r : Result (List V) Fault) → judged (onto v r) ≡ judged r
-judged_onto v (Ok vs) = refl
-judged_onto v (Err f) = refl
-
--- an entry that is read leaves the others to be judged
-pub judged_more : {V : Type 0} (read : Node × Node → Result V Fault) (k v : Node) (ns ms : List Node) (x : V) → ns ≡ k ∷ v ∷ ms → Ok x ≡ read (k, v) → judged (many_by read (entries ns)) ≡ judged (many_by read (entries ms))
-judged_more read k v ns ms x e is =
-    ap (λ l. judged (many_by read (entries l))) e
-    ∙ ap (λ r. judged (and_then r (λ w. onto w (many_by read (entries ms))))) (sym is)
-    ∙ judged_onto x (many_by read (entries ms))
 
 judged_ok : {V : Type 0} (r : Result (List V) Fault) (u : Unit {0}) → Ok u ≡ judged r → (vs : List V) × (r ≡ Ok vs)
 judged_ok (Ok vs) u e = (vs, refl)

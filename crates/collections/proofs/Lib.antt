@@ -1,5 +1,6 @@
 pub mod Anys
 pub mod Yielded
+pub mod Judges
 pub mod TableSteps
 pub mod CutSteps
 pub mod ListSteps

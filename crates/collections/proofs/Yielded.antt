@@ -6,7 +6,9 @@ use Rattle.std.specs.List.{last_or}
 use Rattle.std.proofs.lemmas.Iterator.{YieldsList, items_from_drains}
 use Rattle.resp.specs.Node.{Node}
 use Rattle.reply.specs.View.{node_of, nodes_of}
+use Rattle.reply.specs.declared.view.Items.{Items}
 use Rattle.reply.specs.declared.view.Reply.{Reply}
+use Rattle.reply.specs.Rows.{Over, Passes}
 use Rattle.collections.specs.Entries.{NoEntry, PassesEntry}
 use Rattle.collections.specs.Maps.{entries, last_for}
 use Rattle.collections.specs.Picks.{found_nodes, is_named, last_named, last_named_from}
@@ -33,6 +35,19 @@ gives (k ∷ v ∷ ns) s e = (
 
 pub entries_yield : (s : Entries) → YieldsList entry_steps both_of s (entries (nodes_of s.rest))
 entries_yield s = record { runs = gives (nodes_of s.rest) s refl }
+
+abbrev pub reply_steps : Items → Option Reply → Items → Type 0
+reply_steps row first others = MatchOption first (Over row others) (λ reply. Passes row reply others)
+
+gives_replies : (ns : List Node) (s : Items) → nodes_of s ≡ ns → AlwaysYields reply_steps node_of s ns
+gives_replies [] s e = λ x j p. absurd cc
+gives_replies (n ∷ ns) s e = (
+  (λ j p. absurd cc),
+  λ x j p. let is : node_of x ∷ nodes_of j ≡ n ∷ ns = sym p.items ∙ e in (cc, gives_replies ns j cc),
+)
+
+pub replies_yield : (s : Items) → YieldsList reply_steps node_of s (nodes_of s)
+replies_yield s = record { runs = gives_replies (nodes_of s) s refl }
 
 last_map : {A B : Type 0} (v : A → B) (o : Option A) (xs : List A) → option_map v (last_or o xs) ≡ last_or (option_map v o) (map v xs)
 last_map v o [] = refl

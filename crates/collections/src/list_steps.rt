@@ -21,10 +21,7 @@ pub(crate) fn next_each<K: FromRedisValue>(
 }
 
 /// The next cut as a row.
-pub(crate) fn next_cut<K: Rows>(
-    kind: &K,
-    left: &mut Cuts<'_>,
-) -> Option<Result<K::Value, Fault>>
+pub(crate) fn next_cut<K: Rows>(kind: &K, left: &mut Cuts<'_>) -> Option<Result<K::Value, Fault>>
     ensures step { Steps (many_by (K.Rows.joined kind.now left.old.first) (cuts (K.Rows.more kind.now) (nodes_of left.old.rest))) result (many_by (K.Rows.joined kind.now left.new.first) (cuts (K.Rows.more kind.now) (nodes_of left.new.rest))) }
     ensures falls { Falls left.old.rest.left result left.new.rest.left }
 {

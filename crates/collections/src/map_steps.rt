@@ -48,10 +48,7 @@ impl<K: FromRedisValue, V: FromRedisValue> MapOf<K, V> {
     pub(crate) fn check_entries(&self, items: Items<'_>) -> Result<(), Fault>
         ensures { result ≡ judged (many_by (entry_one (K.FromRedisValue.one self.now.0) (V.FromRedisValue.one self.now.1)) (entries (nodes_of items.entry))) }
     {
-        for entry in (Entries { rest: items }) {
-            self.read_entry(entry)?;
-        }
-        Ok(())
+        Entries { rest: items }.try_for_each(|entry| self.read_entry(entry).and(Ok(())))
     }
 }
 

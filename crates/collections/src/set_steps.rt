@@ -36,8 +36,6 @@ pub(crate) fn next_first<K: Same>(
 pub(crate) fn check_each<K: FromRedisValue>(kind: &K, items: Items<'_>) -> Result<(), Fault>
     ensures { result ≡ judged (many_by (K.FromRedisValue.one kind.now) (nodes_of items.entry)) }
 {
-    for reply in items {
-        kind.from_redis_value(reply)?;
-    }
-    Ok(())
+    let mut rest = items;
+    rest.try_for_each(|reply| kind.from_redis_value(reply).and(Ok(())))
 }

@@ -1,12 +1,12 @@
-use Rattle.std.proofs.Common.{sym, ◌∙◌}
-use Rattle.reply.specs.View.{node_of, nodes_of}
+use Rattle.std.proofs.Common.{◌≡◌, rules}
+use Rattle.std.specs.Prelude.{IsErr, IsErrAnd}
+use Rattle.std.specs.Result.{result_from_control_flow}
 use Rattle.collections.specs.Maps.{entry_one}
-use Rattle.collections.proofs.EntrySteps.{judged_more}
+use Rattle.collections.proofs.Judges.{judges, stopped}
+use Rattle.collections.proofs.Yielded.{entries_yield}
 use Rattle.collections.proofs.map.MapOf.check_entries.Goals as goal
 
-pub loop-entry-preserved : goal.loop-entry-preserved
-loop-entry-preserved g c =
-    c.loop-entry.invariant
-    ∙ judged_more (entry_one (g.K.FromRedisValue.one c.args.self.now.0) (g.V.FromRedisValue.one c.args.self.now.1))
-    (node_of c.in-Some.entry.key) (node_of c.in-Some.entry.value) (nodes_of c.loop-entry.entry-iterator.rest) (nodes_of c.next.new.self.rest)
-    c.in_ok-read_entry.field-0 c.in-Some.ensures.steps.items (sym c.in_ok-read_entry.was ∙ c.read_entry.ensures)
+pub returns : goal.returns
+returns g c =
+    judges (entries_yield (record { rest = c.args.items })) _ _ _ c.try_for_each.result (λ w s. w ≡ result_from_control_flow s) (λ e w. IsErr w × IsErrAnd w (λ f. f ≡ e.0)) c.try_for_each.ensures.ran
+    (entry_one (g.K.FromRedisValue.one c.args.self.now.0) (g.V.FromRedisValue.one c.args.self.now.1)) (λ x r q k. search rules) (λ w e. e) (λ w r e b s. stopped _ w r b s)
