@@ -30,6 +30,20 @@ Falls before None after = Unit {0}
 Falls before (Some (Ok v)) after = after < before
 Falls before (Some (Err f)) after = Unit {0}
 
+-- as many calls as give a row at most
+abbrev pub calls : Option Cursor → ℕ
+calls None = 0
+calls (Some cursor) = suc (size cursor)
+
+-- one call: a row before what is left now, or a refusal, after which nothing comes
+abbrev pub Moves : {V : Type 0} → (Cursor → Result (List V) Fault) → Option Cursor → Option (Result V Fault) → Option Cursor → Type 0
+Moves left None None after = after ≡ None
+Moves left None (Some r) after = ⊥
+Moves left (Some before) None after = (left before ≡ Ok []) × (after ≡ Some before)
+Moves left (Some before) (Some (Ok v)) None = ⊥
+Moves left (Some before) (Some (Ok v)) (Some after) = (left before ≡ onto v (left after)) × (size after < size before)
+Moves left (Some before) (Some (Err f)) after = (left before ≡ Err f) × (after ≡ None)
+
 -- the row i of some; none where there are fewer
 abbrev pub nth : {V : Type 0} → ℕ → List V → Option V
 nth i [] = None

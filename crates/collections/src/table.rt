@@ -1,12 +1,35 @@
 ghost use Rattle.std.specs.Prelude.{◌≡◌, length};
 ghost use Rattle.kinds.specs.Rows.{counted};
 ghost use Rattle.reply.specs.View.{node_of};
-ghost use Rattle.collections.specs.Steps.{Room, laid, noted, nth_in, size, tabled};
+ghost use Rattle.std.specs.Iterator.{at_most};
+ghost use Rattle.collections.specs.Steps.{Moves, Room, calls, laid, noted, nth_in, size, tabled};
 
 use crate::collection::Collection;
 use crate::cursor::Cursor;
 use kinds::{Fault, IntakeReason};
 use reply::Reply;
+
+/// The rows that are left at a cursor, up to a refusal.
+#[derive(Drop)]
+struct Left<'a, C> {
+    shape: &'a C,
+    cursor: Option<Cursor<'a>>,
+}
+
+impl<'a, C: Collection> Iterator for Left<'a, C> {
+    type Item = Result<C::Row, Fault>;
+
+    ghost next_gives = { λ left row others. (others.shape ≡ left.shape) × Moves (C.Collection.left left.shape.now) left.cursor row others.cursor };
+
+    ghost remaining = { λ left. at_most (calls left.cursor) };
+
+    fn next(&mut self) -> Option<Result<C::Row, Fault>> {
+        let mut cursor = self.cursor?;
+        let row = self.shape.advance(&mut cursor)?;
+        self.cursor = if row.is_ok() { Some(cursor) } else { None };
+        Some(row)
+    }
+}
 
 /// How many rows are left.
 fn count_left<C: Collection>(shape: &C, cursor: Cursor<'_>) -> Result<usize, Fault>
@@ -14,10 +37,13 @@ fn count_left<C: Collection>(shape: &C, cursor: Cursor<'_>) -> Result<usize, Fau
 {
     // no more rows come, so that the count fits
     let most = cursor.size();
-    let mut rest = cursor;
     let mut count = 0;
     // kept: a row may be a refusal, so that they are counted one by one
-    while let Some(row) = shape.advance(&mut rest) {
+    let left = Left {
+        shape,
+        cursor: Some(cursor),
+    };
+    for row in left {
         row?;
         count += 1;
     }
@@ -47,10 +73,13 @@ fn note_row<R: Copy>(found: Option<R>, skip: usize, row: R) -> Option<R>
 fn nth_left<C: Collection>(shape: &C, cursor: Cursor<'_>, i: usize) -> Result<Option<C::Row>, Fault>
     ensures { result ≡ nth_in i (C.Collection.left shape.now cursor.entry) }
 {
-    let mut rest = cursor;
+    let left = Left {
+        shape,
+        cursor: Some(cursor),
+    };
     let mut skip = i;
     let mut found = None;
-    while let Some(row) = shape.advance(&mut rest) {
+    for row in left {
         found = note_row(found, skip, row?);
         skip = skip.saturating_sub(1);
     }
