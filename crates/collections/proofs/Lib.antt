@@ -1,4 +1,3 @@
-pub mod Anys
 pub mod Yielded
 pub mod Judges
 pub mod TableSteps

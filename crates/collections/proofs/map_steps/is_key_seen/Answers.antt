@@ -4,7 +4,7 @@ use Rattle.reply.specs.View.{node_of, nodes_of}
 use Rattle.std.specs.Prelude.{MatchOption}
 use Rattle.collections.specs.Entries.{NoEntry, PassesEntry}
 use Rattle.collections.specs.Maps.{seen_key}
-use Rattle.collections.proofs.Anys.{any_is}
+use Rattle.kinds.proofs.Anys.{any_is}
 use Rattle.collections.proofs.SetSteps.{key_more, key_none}
 use Rattle.collections.proofs.map_steps.is_key_seen.Goals as goal
 

@@ -4,7 +4,7 @@ use Rattle.std.specs.Prelude.{MatchOption}
 use Rattle.reply.specs.Rows.{Over, Passes}
 use Rattle.reply.specs.View.{node_of, nodes_of}
 use Rattle.collections.specs.Sets.{seen_in}
-use Rattle.collections.proofs.Anys.{any_is}
+use Rattle.kinds.proofs.Anys.{any_is}
 use Rattle.collections.proofs.SetSteps.{seen_more, seen_none}
 use Rattle.collections.proofs.set_steps.is_seen.Goals as goal
 
