@@ -29,6 +29,7 @@ pub(crate) fn next_cut<K: Rows>(kind: &K, left: &mut Cuts<'_>) -> Option<Result<
         return None;
     }
     let row = kind.join(left.first, &mut left.rest);
+    // asked, so that what `falls` says of the count is known
     let _left = left.rest.len();
     Some(row)
 }

@@ -37,12 +37,12 @@ fn count_left<C: Collection>(shape: &C, cursor: Cursor<'_>) -> Result<usize, Fau
 {
     // no more rows come, so that the count fits
     let most = cursor.size();
-    let mut count = 0;
-    // kept: a row may be a refusal, so that they are counted one by one
     let left = Left {
         shape,
         cursor: Some(cursor),
     };
+    let mut count = 0;
+    // kept: by `try_fold` the closure that adds one would have to be told that the count fits
     for row in left {
         row?;
         count += 1;
@@ -77,6 +77,7 @@ fn nth_left<C: Collection>(shape: &C, cursor: Cursor<'_>, i: usize) -> Result<Op
         shape,
         cursor: Some(cursor),
     };
+    // kept: how many are still to be skipped, as `noted` says it; with an index it would have to be said again of that
     let mut skip = i;
     let mut found = None;
     for row in left {
