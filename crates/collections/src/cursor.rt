@@ -19,6 +19,7 @@ pub struct Classes<'a> {
 }
 
 /// A place among the rows of a collection: what is left of it, and how that is taken.
+// kept: one for all shapes; of a type for each the trait would have to name the bytes' lifetime, and so would what is over it
 #[derive(Clone, Copy)]
 pub enum Cursor<'a> {
     /// Each reply is a row.

@@ -38,6 +38,7 @@ fn value_under<'a>(reply: Reply<'a>, name: &[u8]) -> Result<Option<Reply<'a>>, F
 pub fn text_under<'a>(reply: Reply<'a>, name: &[u8], fallback: &'a [u8]) -> Result<&'a [u8], Fault>
     ensures { Under fallback.entry (value_under name.now (node_of reply.entry)) result }
 {
+    // kept: no option, since the fallback itself is the answer where no key is the name
     let Some(value) = value_under(reply, name)? else {
         return Ok(fallback);
     };

@@ -19,6 +19,7 @@ pub fn read_listed<C: Collection>(shape: &C, reply: Reply<'_>) -> Result<Listed<
     place_and_count(shape, reply)
 }
 
+// kept: what `read_listed` says more follows from this, and is shown once
 fn place_and_count<C: Collection>(shape: &C, reply: Reply<'_>) -> Result<Listed<C::Row>, Fault>
     ensures { result ≡ listed_one (C.Collection.rows shape.now) (node_of reply.entry) }
 {

@@ -23,6 +23,7 @@ impl<K: Rows> Collection for ListOf<K> {
     fn begin<'a>(&self, reply: Reply<'a>) -> Result<Cursor<'a>, Fault> {
         let items = reply.items();
         match reply.case() {
+            // kept: asked by a byte, since a kind hands out no function from bytes
             Case::BulkString if self.0.of_byte(0).is_some() => Ok(Cursor::Bytes(text_of(reply))),
             Case::BulkString => Ok(Cursor::Each(reply.alone())),
             Case::Array | Case::Set if self.0.is_flat(items) => {

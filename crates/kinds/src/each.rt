@@ -15,6 +15,7 @@ pub fn read_next<K: FromRedisValue>(kind: &K, items: &mut Items<'_>) -> Result<K
 }
 
 /// The same as a row: how a kind reads that is never cut.
+// kept: what it says is of the first reply alone, which follows from what `read_next` says of all
 pub fn join_one<K: FromRedisValue>(kind: &K, items: &mut Items<'_>) -> Result<K::Value, Fault>
     ensures value { result ≡ first_by (K.FromRedisValue.one kind.now) (take 1 (nodes_of items.old)) }
     ensures rest { nodes_of items.new ≡ drop 1 (nodes_of items.old) }

@@ -25,6 +25,7 @@ pub fn same_next<K: Same>(kind: &K, a: &mut Items<'_>, b: &mut Items<'_>) -> boo
     ensures first { nodes_of a.new ≡ drop 1 (nodes_of a.old) }
     ensures second { nodes_of b.new ≡ drop 1 (nodes_of b.old) }
 {
+    // kept: a nil where none is left is what a kind reads of a reply that is wanting
     let first = a.next().unwrap_or_default();
     kind.is_same(first, b.next().unwrap_or_default())
 }

@@ -5,7 +5,7 @@ use crate::open::singles;
 use crate::pass::{Passed, pass};
 use crate::view::{Items, Reply};
 
-// kept: bytes and a place, since the premise is asked of a row of single replies, which no view of pairs is
+// kept: bytes and a place, since a row of pairs is passed as one of single replies, of which a view would first have to be made
 /// Where so many whole replies, one after another, end. It passes item after item, and looks at no text.
 fn replies_end(bytes: &[u8], at: usize, replies: usize) -> usize
     ensures { at ≤ length bytes.now → wholly_row bytes.now false at replies ≡ true → RowEnded bytes.now false at replies result }

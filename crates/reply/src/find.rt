@@ -10,6 +10,7 @@ impl<'a> Items<'a> {
     fn around(mut self, spot: Spot) -> Option<Reply<'a>>
         ensures { MatchOption result (nodes_of self.entry ≡ []) (λ reply. Narrows spot self.entry reply) }
     {
+        // kept: by `take_while` the one after the last would be asked for its end too
         let mut here = self.next()?;
         while self.at <= spot.at {
             let Some(next) = self.next() else {

@@ -91,6 +91,7 @@ impl<'a> Reply<'a> {
     pub fn format(self) -> &'a [u8]
         ensures { result.now ≡ format_of (node_of self.entry) }
     {
+        // kept: no option, since a reply without a format has one of no bytes
         match self.case() {
             Case::VerbatimString => {
                 let start = self.format_start();

@@ -48,6 +48,7 @@ fn case_by(kind: Kind, line: &[u8]) -> Case
 }
 
 /// The case by the first bytes alone.
+// kept: what `case_of` says of the tree follows from this, and is shown once
 fn first_case(reply: &[u8]) -> Option<Case>
     ensures { result ≡ case_in reply.now }
 {
