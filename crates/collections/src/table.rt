@@ -77,7 +77,7 @@ fn nth_left<C: Collection>(shape: &C, cursor: Cursor<'_>, i: usize) -> Result<Op
         shape,
         cursor: Some(cursor),
     };
-    // kept: how many are still to be skipped, as `noted` says it; with an index it would have to be said again of that
+    // kept: tried by `enumerate`, but that its index fits did not prove: a refusal may come as one item more than can be counted
     let mut skip = i;
     let mut found = None;
     for row in left {

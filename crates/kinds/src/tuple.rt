@@ -15,17 +15,16 @@ pub trait Tuple {
     type Value: Copy;
 
     // how many replies beside the first
-    ghost beside: { Self → ℕ };
+    ghost BESIDE: { ℕ };
+
+    const BESIDE: usize;
 
     // what they read as
     ghost fields: { Self → List Node → Result Self.Value Fault };
 
-    fn beside_first(&self) -> usize
-        ensures { result ≡ beside self.now };
-
     fn read_fields(&self, items: &mut Items<'_>) -> Result<Self::Value, Fault>
-        ensures value { result ≡ fields self.now (take (suc (beside self.now)) (nodes_of items.old)) }
-        ensures rest { is_ok result ≡ true → nodes_of items.new ≡ drop (suc (beside self.now)) (nodes_of items.old) };
+        ensures value { result ≡ fields self.now (take (suc BESIDE) (nodes_of items.old)) }
+        ensures rest { is_ok result ≡ true → nodes_of items.new ≡ drop (suc BESIDE) (nodes_of items.old) };
 }
 
 /// Whether a reply of that case holds replies that can be a tuple's.
@@ -53,7 +52,7 @@ fn is_one_and(items: Items<'_>, beside: usize) -> bool
 impl<T: Tuple> FromRedisValue for T {
     type Value = T::Value;
 
-    ghost one = { λ k. tuple_one (T.Tuple.beside k) (T.Tuple.fields k) };
+    ghost one = { λ k. tuple_one T.BESIDE (T.Tuple.fields k) };
 
     fn from_redis_value(&self, reply: Reply<'_>) -> Result<T::Value, Fault> {
         let inner = reply.unwrapped();
@@ -61,7 +60,7 @@ impl<T: Tuple> FromRedisValue for T {
             return Err(refuse(ElementReason::Kind, reply));
         }
         let mut items = inner.flat();
-        if !is_one_and(items, self.beside_first()) {
+        if !is_one_and(items, T::BESIDE) {
             return Err(refuse(ElementReason::Count, reply));
         }
         self.read_fields(&mut items)
@@ -70,11 +69,10 @@ impl<T: Tuple> FromRedisValue for T {
 
 /// Whether a list of replies is cut flat: not all are tuples.
 pub fn tuple_flat<T: Tuple>(tuple: &T, items: Items<'_>) -> bool
-    ensures { result ≡ tuple_flat (T.Tuple.beside tuple.now) (nodes_of items.entry) }
+    ensures { result ≡ tuple_flat T.BESIDE (nodes_of items.entry) }
 {
-    let beside = tuple.beside_first();
     let mut rest = items;
-    rest.any(|reply| !is_tuple(reply, beside))
+    rest.any(|reply| !is_tuple(reply, T::BESIDE))
 }
 
 /// The tuple of the next cut of a list whose first reply is at a place.
@@ -83,10 +81,10 @@ pub fn tuple_join<T: Tuple>(
     first: Spot,
     items: &mut Items<'_>,
 ) -> Result<T::Value, Fault>
-    ensures value { result ≡ tuple_joined (T.Tuple.beside tuple.now) (T.Tuple.fields tuple.now) first (take (suc (T.Tuple.beside tuple.now)) (nodes_of items.old)) }
-    ensures rest { is_ok result ≡ true → nodes_of items.new ≡ drop (suc (T.Tuple.beside tuple.now)) (nodes_of items.old) }
+    ensures value { result ≡ tuple_joined T.BESIDE (T.Tuple.fields tuple.now) first (take (suc T.BESIDE) (nodes_of items.old)) }
+    ensures rest { is_ok result ≡ true → nodes_of items.new ≡ drop (suc T.BESIDE) (nodes_of items.old) }
 {
-    if items.len() <= tuple.beside_first() {
+    if items.len() <= T::BESIDE {
         return Err(refuse_at(ElementReason::Count, first));
     }
     tuple.read_fields(items)

@@ -13,13 +13,11 @@ use reply::{Items, Reply, Spot};
 impl<A: FromRedisValue, B: FromRedisValue> Tuple for (A, B) {
     type Value = (A::Value, B::Value);
 
-    ghost beside = { λ _. 1 };
+    ghost BESIDE = { 1 };
+
+    const BESIDE: usize = 1;
 
     ghost fields = { λ k. fields2 (A.FromRedisValue.one k.0) (B.FromRedisValue.one k.1) };
-
-    fn beside_first(&self) -> usize {
-        1
-    }
 
     fn read_fields(&self, items: &mut Items<'_>) -> Result<(A::Value, B::Value), Fault> {
         let first = read_next(&self.0, items)?;
@@ -55,13 +53,11 @@ impl<A: FromRedisValue, B: FromRedisValue> Rows for (A, B) {
 impl<A: FromRedisValue, B: FromRedisValue, C: FromRedisValue> Tuple for (A, B, C) {
     type Value = (A::Value, B::Value, C::Value);
 
-    ghost beside = { λ _. 2 };
+    ghost BESIDE = { 2 };
+
+    const BESIDE: usize = 2;
 
     ghost fields = { λ k. fields3 (A.FromRedisValue.one k.0) (B.FromRedisValue.one k.1) (C.FromRedisValue.one k.2) };
-
-    fn beside_first(&self) -> usize {
-        2
-    }
 
     fn read_fields(&self, items: &mut Items<'_>) -> Result<(A::Value, B::Value, C::Value), Fault> {
         let first = read_next(&self.0, items)?;
@@ -103,13 +99,11 @@ impl<A: FromRedisValue, B: FromRedisValue, C: FromRedisValue, D: FromRedisValue>
     for (A, B, C, D) {
     type Value = (A::Value, B::Value, C::Value, D::Value);
 
-    ghost beside = { λ _. 3 };
+    ghost BESIDE = { 3 };
+
+    const BESIDE: usize = 3;
 
     ghost fields = { λ k. fields4 (A.FromRedisValue.one k.0) (B.FromRedisValue.one k.1) (C.FromRedisValue.one k.2) (D.FromRedisValue.one k.3) };
-
-    fn beside_first(&self) -> usize {
-        3
-    }
 
     fn read_fields(
         &self,

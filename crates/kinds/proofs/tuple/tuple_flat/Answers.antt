@@ -12,7 +12,7 @@ or_else false r = refl
 
 pub returns : goal.returns
 returns g c =
-    let beside = g.T.Tuple.beside c.args.tuple.now in
+    let beside = g.T.Tuple.BESIDE in
     any_is (λ row first others. MatchOption first (Over row others) (λ reply. Passes row reply others)) _ _ c.args.items _ _ c.any.ensures.ran (λ reply. not (is_tuple beside (node_of reply))) (λ s. tuple_flat beside (nodes_of s)) (λ y r q k. search rules)
     (λ s u over. ap (tuple_flat beside) over.items)
     (λ s u reply passes. ap (tuple_flat beside) passes.items ∙ or_else (is_tuple beside (node_of reply)) (tuple_flat beside (nodes_of u)))
