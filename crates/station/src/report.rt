@@ -125,6 +125,7 @@ fn print_note(rt: &HostRuntime, bytes: &[u8], note: &Note) -> anyhow::Result<()>
 }
 
 /// The lines of one whole reply, which are those of its notes.
+// kept: bytes and a place, as for the notes
 fn print_reply(
     rt: &HostRuntime,
     bytes: &[u8],
