@@ -37,6 +37,13 @@ each_back tree one can written stands back (m ∷ ms) (n ∷ ns) i c e =
     let (vs, os, ss) = each_back tree one can written stands back ms ns i.1 c.1 q in
     (v ∷ vs, ap (λ r. and_then r (λ x. onto x (many_by one ns))) o ∙ ap (onto v) os, (s, ss))
 
+-- the same of the rows of a list, where each of its replies is a row
+pub rows_back : {V M : Type 0} (tree : Node) (one : Node → Result V Fault) (many : List Node → Result (List V) Fault) (can : M → Type 0) (written : M → Reply) (stands : V → M → Type 0)
+    → ((ns : List Node) → many ns ≡ many_by one ns) → ReadsBack tree one can written stands → ManyBack tree many can written stands
+rows_back tree one many can written stands each back ms ns i c e =
+    let (vs, o, s) = each_back tree one can written stands back ms ns i c e in
+    (vs, each ns ∙ o, s)
+
 pub int_back : (tree : Node) (b : Bounds) → ReadsBack tree (integer_one b) (InBounds b) (λ z. One (Int z)) (λ v m. v ≡ m)
 int_back tree b z n i c e =
     let l = leaf_of_lem n (Int z) e in

@@ -8,4 +8,4 @@ mod plain;
 mod rows;
 
 pub use back::read_written;
-pub use kind::Writes;
+pub use kind::{Writes, WritesEach};

@@ -1,18 +1,17 @@
 ghost use Rattle.std.proofs.Math.Bool as bits;
-ghost use Rattle.std.specs.Prelude.{◌≡◌, ℕ, List, None, Option};
+ghost use Rattle.std.specs.Prelude.{◌≡◌, ℕ, List, None, Option, refl};
 ghost use Rattle.resp.specs.Reply as wire;
 ghost use Rattle.utf8.specs.Scan.{ill_formed};
-ghost use Rattle.kinds.specs.Numbers.{bounds_from, integer_one, narrowed};
+ghost use Rattle.kinds.specs.Numbers.{bounds_from};
 ghost use Rattle.writes.specs.Writing.{Can2, Can3, Can4, InBounds, OptionCan, OptionStands, option_written, PlaceStands, Stands2, Stands3, Stands4, TextStands, written2, written3, written4};
-ghost use Rattle.writes.specs.ReadBack.{each_back, integer_back, bool_back, text_back, value_back, option_back, back2, test2, tuples_back, back3, test3, back4, test4};
+ghost use Rattle.writes.specs.ReadBack.{integer_back, bool_back, text_back, value_back, option_back, back2, test2, tuples_back, back3, test3, back4, test4};
 ghost use Rattle.resp.specs.Reply.{One, Int, Boolean, BulkString};
-ghost use Rattle.kinds.specs.Plain.{bool_one, text_one, value_one, option_one};
 ghost use Rattle.kinds.specs.Tuples.{fields2, tuple_joined, tuple_one, fields3, fields4};
 
-use crate::kind::Writes;
-use kinds::{Bool, FromRedisValue, Integer, Optional, Rows, Text, Value, Width};
+use crate::kind::{Writes, WritesEach};
+use kinds::{Bool, FromRedisValue, Integer, Optional, Text, Value, Width};
 
-impl<T: Width> Writes for Integer<T> {
+impl<T: Width> WritesEach for Integer<T> {
     ghost Model = { T };
 
     ghost can = { λ _ m. InBounds (bounds_from T.LOW T.HIGH) (T.widen m) × T.in_i64 m };
@@ -23,12 +22,10 @@ impl<T: Width> Writes for Integer<T> {
 
     ghost one_back = { λ k bs tree held. integer_back tree (bounds_from T.LOW T.HIGH) T.narrow T.widen T.in_i64 T.same };
 
-    ghost many_back = { λ k bs tree held.
-        each_back tree (λ n. narrowed T.narrow (integer_one (bounds_from T.LOW T.HIGH) n)) (λ m. InBounds (bounds_from T.LOW T.HIGH) (T.widen m) × T.in_i64 m) (λ m. One (Int (T.widen m))) (λ v m. v ≡ m)
-        (integer_back tree (bounds_from T.LOW T.HIGH) T.narrow T.widen T.in_i64 T.same) };
+    ghost each = { λ _ _. refl };
 }
 
-impl Writes for Bool {
+impl WritesEach for Bool {
     ghost Model = { bits.Bool };
 
     ghost can = { λ _ _. Unit {0} };
@@ -39,10 +36,10 @@ impl Writes for Bool {
 
     ghost one_back = { λ k bs tree held. bool_back tree };
 
-    ghost many_back = { λ k bs tree held. each_back tree bool_one (λ m. Unit {0}) (λ m. One (Boolean m)) (λ v m. v ≡ m) (bool_back tree) };
+    ghost each = { λ _ _. refl };
 }
 
-impl Writes for Text {
+impl WritesEach for Text {
     ghost Model = { List ℕ };
 
     ghost can = { λ _ m. ill_formed m ≡ None };
@@ -53,10 +50,10 @@ impl Writes for Text {
 
     ghost one_back = { λ k bs tree held. text_back bs tree held };
 
-    ghost many_back = { λ k bs tree held. each_back tree text_one (λ m. ill_formed m ≡ None) (λ m. One (BulkString m)) (TextStands bs) (text_back bs tree held) };
+    ghost each = { λ _ _. refl };
 }
 
-impl Writes for Value {
+impl WritesEach for Value {
     ghost Model = { wire.Reply };
 
     ghost can = { λ _ _. Unit {0} };
@@ -67,10 +64,10 @@ impl Writes for Value {
 
     ghost one_back = { λ k bs tree held. value_back bs tree held };
 
-    ghost many_back = { λ k bs tree held. each_back tree value_one (λ m. Unit {0}) (λ m. m) (PlaceStands tree) (value_back bs tree held) };
+    ghost each = { λ _ _. refl };
 }
 
-impl<K: Writes> Writes for Optional<K> {
+impl<K: Writes> WritesEach for Optional<K> {
     ghost Model = { Option K.Writes.Model };
 
     ghost can = { λ k. OptionCan (K.Writes.can k.0) (K.Writes.written k.0) };
@@ -81,7 +78,7 @@ impl<K: Writes> Writes for Optional<K> {
 
     ghost one_back = { λ k bs tree held. option_back tree (K.FromRedisValue.one k.0) (K.Writes.can k.0) (K.Writes.written k.0) (K.Writes.stands k.0 bs tree) (K.Writes.one_back k.0 bs tree held) };
 
-    ghost many_back = { λ k bs tree held. each_back tree (option_one (K.FromRedisValue.one k.0)) (OptionCan (K.Writes.can k.0) (K.Writes.written k.0)) (option_written (K.Writes.written k.0)) (OptionStands (K.Writes.stands k.0 bs tree)) (option_back tree (K.FromRedisValue.one k.0) (K.Writes.can k.0) (K.Writes.written k.0) (K.Writes.stands k.0 bs tree) (K.Writes.one_back k.0 bs tree held)) };
+    ghost each = { λ _ _. refl };
 }
 
 impl<A: Writes, B: Writes> Writes for (A, B) {

@@ -1,16 +1,15 @@
-ghost use Rattle.std.specs.Prelude.{List};
-ghost use Rattle.collections.specs.Lists.{list_rows, listed_one};
+ghost use Rattle.std.specs.Prelude.{List, refl};
+ghost use Rattle.collections.specs.Lists.{list_rows};
 ghost use Rattle.collections.specs.Maps.{map_rows};
 ghost use Rattle.collections.specs.Sets.{set_rows};
 ghost use Rattle.writes.specs.Writing.{All, list_written, MapCan, map_written, RowsStand, SetCan, set_written, Stands2};
 ghost use Rattle.writes.specs.RowsBack.{list_back, set_back, map_back};
-ghost use Rattle.writes.specs.ReadBack.{each_back};
 
-use crate::kind::Writes;
+use crate::kind::{Writes, WritesEach};
 use collections::{ListOf, MapOf, SetOf};
 use kinds::{FromRedisValue, Rows, Same};
 
-impl<K: Writes> Writes for ListOf<K> {
+impl<K: Writes> WritesEach for ListOf<K> {
     ghost Model = { List K.Writes.Model };
 
     ghost can = { λ k. All (K.Writes.can k.0) };
@@ -21,12 +20,10 @@ impl<K: Writes> Writes for ListOf<K> {
 
     ghost one_back = { λ k bs tree held. list_back bs tree held (K.FromRedisValue.one k.0) (K.Rows.flat k.0) (K.Rows.more k.0) (K.Rows.joined k.0) (K.Rows.bytewise k.0) (K.Writes.can k.0) (K.Writes.written k.0) (K.Writes.stands k.0 bs tree) (K.Writes.many_back k.0 bs tree held) };
 
-    ghost many_back = { λ k bs tree held.
-        each_back tree (listed_one (list_rows (K.FromRedisValue.one k.0) (K.Rows.flat k.0) (K.Rows.more k.0) (K.Rows.joined k.0) (K.Rows.bytewise k.0))) (All (K.Writes.can k.0)) (list_written (K.Writes.written k.0)) (RowsStand tree (list_rows (K.FromRedisValue.one k.0) (K.Rows.flat k.0) (K.Rows.more k.0) (K.Rows.joined k.0) (K.Rows.bytewise k.0)) (K.Writes.stands k.0 bs tree))
-        (list_back bs tree held (K.FromRedisValue.one k.0) (K.Rows.flat k.0) (K.Rows.more k.0) (K.Rows.joined k.0) (K.Rows.bytewise k.0) (K.Writes.can k.0) (K.Writes.written k.0) (K.Writes.stands k.0 bs tree) (K.Writes.many_back k.0 bs tree held)) };
+    ghost each = { λ _ _. refl };
 }
 
-impl<K: Writes + Same> Writes for SetOf<K> {
+impl<K: Writes + Same> WritesEach for SetOf<K> {
     ghost Model = { List K.Writes.Model };
 
     ghost can = { λ k. SetCan (K.Same.alike k.0) (K.Writes.can k.0) (K.Writes.written k.0) };
@@ -37,12 +34,10 @@ impl<K: Writes + Same> Writes for SetOf<K> {
 
     ghost one_back = { λ k bs tree held. set_back bs tree held (K.FromRedisValue.one k.0) (K.Same.alike k.0) (K.Writes.can k.0) (K.Writes.written k.0) (K.Writes.stands k.0 bs tree) (K.Writes.one_back k.0 bs tree held) };
 
-    ghost many_back = { λ k bs tree held.
-        each_back tree (listed_one (set_rows (K.FromRedisValue.one k.0) (K.Same.alike k.0))) (SetCan (K.Same.alike k.0) (K.Writes.can k.0) (K.Writes.written k.0)) (set_written (K.Writes.written k.0)) (RowsStand tree (set_rows (K.FromRedisValue.one k.0) (K.Same.alike k.0)) (K.Writes.stands k.0 bs tree))
-        (set_back bs tree held (K.FromRedisValue.one k.0) (K.Same.alike k.0) (K.Writes.can k.0) (K.Writes.written k.0) (K.Writes.stands k.0 bs tree) (K.Writes.one_back k.0 bs tree held)) };
+    ghost each = { λ _ _. refl };
 }
 
-impl<K: Writes + Same, V: Writes> Writes for MapOf<K, V> {
+impl<K: Writes + Same, V: Writes> WritesEach for MapOf<K, V> {
     ghost Model = { List (K.Writes.Model × V.Writes.Model) };
 
     ghost can = { λ m. MapCan (K.Same.alike m.0) (K.Writes.can m.0) (V.Writes.can m.1) (K.Writes.written m.0) };
@@ -53,7 +48,5 @@ impl<K: Writes + Same, V: Writes> Writes for MapOf<K, V> {
 
     ghost one_back = { λ k bs tree held. map_back bs tree held (K.FromRedisValue.one k.0) (V.FromRedisValue.one k.1) (K.Same.alike k.0) (K.Writes.can k.0) (V.Writes.can k.1) (K.Writes.written k.0) (V.Writes.written k.1) (K.Writes.stands k.0 bs tree) (V.Writes.stands k.1 bs tree) (K.Writes.one_back k.0 bs tree held) (V.Writes.one_back k.1 bs tree held) };
 
-    ghost many_back = { λ k bs tree held.
-        each_back tree (listed_one (map_rows (K.FromRedisValue.one k.0) (V.FromRedisValue.one k.1) (K.Same.alike k.0))) (MapCan (K.Same.alike k.0) (K.Writes.can k.0) (V.Writes.can k.1) (K.Writes.written k.0)) (map_written (K.Writes.written k.0) (V.Writes.written k.1)) (RowsStand tree (map_rows (K.FromRedisValue.one k.0) (V.FromRedisValue.one k.1) (K.Same.alike k.0)) (Stands2 (K.Writes.stands k.0 bs tree) (V.Writes.stands k.1 bs tree)))
-        (map_back bs tree held (K.FromRedisValue.one k.0) (V.FromRedisValue.one k.1) (K.Same.alike k.0) (K.Writes.can k.0) (V.Writes.can k.1) (K.Writes.written k.0) (V.Writes.written k.1) (K.Writes.stands k.0 bs tree) (V.Writes.stands k.1 bs tree) (K.Writes.one_back k.0 bs tree held) (V.Writes.one_back k.1 bs tree held)) };
+    ghost each = { λ _ _. refl };
 }
