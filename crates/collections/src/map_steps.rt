@@ -62,6 +62,7 @@ impl<K: Same, V: FromRedisValue> MapOf<K, V> {
         ensures falls { Falls classes.old.rest.left result classes.new.rest.left }
     {
         let mut entries = Entries { rest: classes.rest };
+        // kept: as in `next_first`
         loop {
             let before = classes.all.len().saturating_sub(entries.rest.len()) / 2;
             let entry = entries.next()?;

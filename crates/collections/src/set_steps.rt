@@ -23,6 +23,7 @@ pub(crate) fn next_first<K: Same>(
     ensures step { Steps (many_by (K.FromRedisValue.one kind.now) (firsts_in (K.Same.alike kind.now) (nodes_of classes.old.all) (nodes_of classes.old.rest))) result (many_by (K.FromRedisValue.one kind.now) (firsts_in (K.Same.alike kind.now) (nodes_of classes.new.all) (nodes_of classes.new.rest))) }
     ensures falls { Falls classes.old.rest.left result classes.new.rest.left }
 {
+    // kept: the count of those before each falls with the row itself, which a closure for `find` would not be handed
     loop {
         let before = classes.all.len().saturating_sub(classes.rest.len());
         let reply = classes.rest.next()?;

@@ -83,7 +83,7 @@ pub enum Below {
 pub struct RecordFault {
     pub reason: RecordReason,
     pub record: Record,
-    // kept: not an option, as the field's number is what an answer shows, and 0 is its number for the record itself
+    // kept: not an option, as fields are counted from 1, and 0 is the record's own number among them
     pub field: u8,
     pub spot: Spot,
     pub below: Option<Below>,

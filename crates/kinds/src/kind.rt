@@ -21,7 +21,7 @@ pub trait FromRedisValue {
 }
 
 /// A kind as an element of a list: what several replies, or a byte string, read as.
-// kept: not one record of what it says, since each clause speaks of one or two of them alone
+// kept: not one record of what it says, since its methods' clauses speak of one or two of them, and would take it apart
 pub trait Rows: FromRedisValue {
     // whether a list of replies is cut, several to a row; else each is a row
     ghost flat: { Self → List Node → Bool };

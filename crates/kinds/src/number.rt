@@ -27,7 +27,7 @@ fn float_or_refuse(reply: Reply<'_>, read: Result<f64, FloatFault>) -> Result<f6
 }
 
 /// The integer that a text writes, as the text of the reply.
-// kept: the reply goes along to be refused, here and below, since each definition gives its refusal with the place
+// kept: the reply goes along to be refused, here, below and for other kinds, since each definition gives its refusal with the place
 fn text_integer(reply: Reply<'_>, text: &[u8], bounds: Bounds) -> Result<i128, Fault>
     ensures { result ≡ text_integer (spot_of (node_of reply.entry)) bounds text.now }
 {

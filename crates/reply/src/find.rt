@@ -10,7 +10,7 @@ impl<'a> Items<'a> {
     fn around(mut self, spot: Spot) -> Option<Reply<'a>>
         ensures { MatchOption result (nodes_of self.entry ≡ []) (λ reply. Narrows spot self.entry reply) }
     {
-        // kept: by `take_while` the one after the last would be asked for its end too
+        // kept: `take_while` would have to be told where the next begins, which a view doesn't say of itself
         let mut here = self.next()?;
         while self.at <= spot.at {
             let Some(next) = self.next() else {
@@ -29,6 +29,7 @@ impl<'a> Reply<'a> {
         ensures found { MatchOption result (NoneBegins spot (node_of self.entry)) (λ reply. Begins spot (node_of self.entry) (node_of reply)) }
         ensures bytes { IfSome result (λ reply. reply.bytes ≡ self.entry.bytes) }
     {
+        // kept: each turn goes a level down, and how many there are isn't known before
         let mut here = self;
         while here.spot() != spot {
             here = here.inner().around(spot)?;

@@ -29,7 +29,7 @@ fn count(content: &[u8]) -> Option<u32>
 }
 
 /// Whether the line after a first byte tells a length or a count.
-// kept: first bytes, here and below, and not their kinds: an item is passed by without a judgement, and most bytes need no more
+// kept: first bytes, here and below, and not their kinds: what is said of them is said of any byte, also of one of no kind
 fn tells_count(first: u8) -> bool
     ensures { result ≡ tells first }
 {

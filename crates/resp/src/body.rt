@@ -53,6 +53,7 @@ impl<'a> Closed<'a> {
     pub(crate) fn text_end(self) -> Result<usize, WireFault>
         ensures { Told (Ends self.entry.bytes.now) self.entry.bytes.now (text (held self.entry) (left_after self.entry)) result }
     {
+        // kept: the place is what there is where it is refused, so that `ok_or` would be the other way round
         match ill_formed(self.held()) {
             None => Ok(self.after()),
             Some(i) => Err(WireReason::NotUtf8.at(self.from + i)),

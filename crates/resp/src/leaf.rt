@@ -14,7 +14,7 @@ use crate::opening::Size;
 use numerals::{is_big_number, is_double, read_integer};
 
 /// Whether a line's content is one of its kind's.
-// kept: by a test that is handed in `content_line` would speak of what the test answers, and each kind have to show it
+// kept: by a test that is handed in, `content_line` would speak of what the test answers, and each kind have to show it
 fn fits(kind: Kind, content: &[u8]) -> bool
     ensures { result ≡ is_some (leaf_of kind content.now) }
 {

@@ -36,7 +36,7 @@ pub fn open_item(bytes: &[u8]) -> Result<Opening, WireFault>
 fn is_string(reply: &[u8]) -> bool
     ensures { result ≡ starts_string reply.now }
 {
-    // kept: two bytes tell it, where `case_of` would tell all cases apart
+    // kept: no plainer by `case_of`, since three of its cases are strings, and it may be none
     match reply {
         [b'+', ..] => true,
         [b'$', next, ..] => *next != b'-',

@@ -79,8 +79,8 @@ fn set_end(notes: &mut Vec<Note>, index: usize, end: usize)
 }
 
 /// Notes the reply at `at` and what it holds, and answers where it ends.
-// kept: bytes and a place, since notes say places in all the bytes; a note's end is written when its parts are noted, as it comes
-// before theirs
+// kept: bytes and a place, since notes say places in all the bytes; a note's end is written once its parts are
+// noted, since the note comes before theirs
 pub fn note_reply(
     bytes: &[u8],
     at: usize,

@@ -167,7 +167,7 @@ pub fn recording(rt: &HostRuntime, bytes: &[u8]) -> anyhow::Result<Survey>
     let mut notes = Vec::new(rt.alloc());
     let mut at = 0;
     let mut replies = 0u64;
-    // kept: each reply says where the next begins, so that no iterator knows it
+    // kept: an iterator of whole replies would have to say its step as a relation, and hold the fault that ends it
     while at < bytes.len() {
         match walk(&bytes[at..]) {
             Ok(length) => {
