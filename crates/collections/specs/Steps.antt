@@ -30,7 +30,7 @@ Falls before None after = Unit {0}
 Falls before (Some (Ok v)) after = after < before
 Falls before (Some (Err f)) after = Unit {0}
 
--- as many calls as give a row at most
+-- how many calls can give something: each a row, or the last a refusal
 abbrev pub calls : Option Cursor → ℕ
 calls None = 0
 calls (Some cursor) = suc (size cursor)

@@ -204,8 +204,3 @@ read_there bs p n e = ⊎_elim (λ past. absurd (none (sym (ap answer (drop_all 
 pub no_case : (r : Option Case) (k : Case) → false ≡ is_some r → r ≡ Some k → ⊥
 no_case None k v e = cc
 no_case (Some j) k v e = cc
-
--- a case has one value
-pub one_case : (r : Option Case) (j k : Case) → r ≡ Some j → r ≡ Some k → j ≡ k
-one_case None j k v e = cc
-one_case (Some i) j k v e = cc

@@ -1,10 +1,11 @@
-use Rattle.std.proofs.Common.{◌≡◌, ap, ◌∙◌, subst, arith}
+use Rattle.std.proofs.Common.{sym, ap, ◌∙◌, subst, arith}
+use Rattle.std.specs.Option.{unwrap_or}
 use Rattle.std.proofs.lemmas.List.{take_rest}
 use Rattle.std.proofs.lemmas.Result.{err_from_is_err_and}
 use Rattle.resp.specs.Cases.{Cased, case_of}
 use Rattle.resp.specs.Node.{erase}
 use Rattle.resp.specs.Told.{opened}
-use Rattle.station.proofs.Steps.{stands_inside, not_too_deep, told_case, no_case, one_case, no_fault, start, child, next, finish}
+use Rattle.station.proofs.Steps.{stands_inside, not_too_deep, told_case, no_case, no_fault, start, child, next, finish}
 use Rattle.station.proofs.listing.+note_reply.Goals as goal
 use Rattle.station.proofs.listing.+note_reply.Goals.{then-at-bytes-via-then-at-bytes, then-at-bytes-via-else-at-bytes+then-level-ge-DEEPEST}
 
@@ -33,7 +34,7 @@ loop-item-init t c tree rest e =
     let level = c.args.level in
     let s = start bs p level tree rest (omega arith) e c.in_ok-items.field-0 (c.in_ok-items.ensures ∙ ap opened (take_rest bs p)) in
     let told = told_case bs p level tree rest (omega arith) e c.case_of.result (subst (λ l. Cased l c.case_of.result) (take_rest bs p) c.case_of.ensures.tree) in
-    let case = one_case c.case_of.result c.in_ok-case.case (case_of (erase tree)) c.in_ok-case.ensures.ok_part told in
+    let case = ap (λ o. unwrap_or o c.in_ok-case.case) (sym c.in_ok-case.ensures.ok_part ∙ told) in
     (omega (arith, c.len-index.ensures), s.going c.args.notes.now.items c.push.new.self.items c.in_ok-case.case c.saturating_add-end.result case c.in_ok-push.ensures.items (omega (arith, s.fits)))
 
 pub returns-in_err-end : goal.returns-in_err-end
