@@ -2,11 +2,14 @@
 use Rattle.std.proofs.Common.{◌≡◌, ℕ, suc, ◌+◌, ◌<◌, ◌≤◌, Bool, true, false, cond, not, ◌&&◌, eqb, List, [], ◌∷◌, ◌++◌, Some, None, Option, sym, refl, ap, ◌∙◌, subst, arith}
 use Rattle.std.proofs.lemmas.Bool.{and_parts, eqb-true, eq-eqb}
 use Rattle.std.specs.Bool.{beq}
+use Rattle.std.specs.Option.{MatchOption}
 use Rattle.resp.specs.Node.{Node, OneAt, ArrayAt, SetAt, PushAt, MapAt, AttributeAt, PairAt, Nodes, no_node, node_then, NodePairs, no_nodes, nodes_then}
 use Rattle.reply.specs.declared.spot.Spot.{Spot}
+use Rattle.reply.specs.declared.view.Reply.{Reply}
 use Rattle.reply.specs.Parts.{spot_of, pair_node, listed, paired, flattened, inner_of}
 use Rattle.reply.specs.Inside.{Among, first, later, Inside, itself, below}
-use Rattle.reply.specs.Find.{same_spot, or_else, hit, find, find_each, find_pairs, find_halves, find_among, Begins, NoneBegins}
+use Rattle.reply.specs.Find.{same_spot, or_else, hit, find, find_each, find_pairs, find_halves, find_among, told, Begins, NoneBegins}
+use Rattle.reply.specs.View.{node_of}
 
 pub or_none : (o : Option Node) → or_else o None ≡ o
 or_none (Some n) = refl
@@ -212,15 +215,16 @@ pub inner_size : (m n : Node) → Among m (inner_of n) → size m < size n
 inner_size m n a = omega (arith, among_size m (inner_of n) a, inner_total n)
 
 -- what the comparison of two places says
-pub spots_are : (a b : Spot) (t : Bool) → t ≡ not (eqb a.at b.at && beq a.pair b.pair) → same_spot a b ≡ not t
-spots_are a b t e = by a.pair b.pair refl refl ∙ sym (not_not (eqb a.at b.at && beq a.pair b.pair)) ∙ ap not (sym e)
+pub spots_are : (a b : Spot) → same_spot a b ≡ (eqb a.at b.at && beq a.pair b.pair)
+spots_are a b = by a.pair b.pair refl refl
   where
-    not_not : (x : Bool) → not (not x) ≡ x
-    not_not true = refl
-    not_not false = refl
-
     by : (p q : Bool) → a.pair ≡ p → b.pair ≡ q → (eqb a.at b.at && cond p q (not q)) ≡ (eqb a.at b.at && beq p q)
     by true true i j = refl
     by true false i j = refl
     by false true i j = refl
     by false false i j = refl
+
+-- what an answer says of the tree
+pub told_begins : (s : Spot) (tree : Node) (o : Option Reply) → told o ≡ find s tree → MatchOption o (NoneBegins s tree) (λ reply. Begins s tree (node_of reply))
+told_begins s tree (Some reply) e = find_is s tree (node_of reply) (sym e)
+told_begins s tree None e = find_none s tree (sym e)

@@ -1,12 +1,21 @@
 use Rattle.std.proofs.Common.{arith}
-use Rattle.reply.proofs.Arounds.{at_first, at_next, stopped}
+use Rattle.reply.proofs.Arounds.{no_more, at_next, at_the_last, stopped}
 use Rattle.reply.proofs.view.Items.around.Goals as goal
 
-pub loop-self-init : goal.loop-self-init
-loop-self-init c = at_first c.args.spot c.args.self c.in_ok-here.here c.next.new.self c.in_ok-here.ensures.steps
+pub returns-then-self-eq0 : goal.returns-then-self-eq0
+returns-then-self-eq0 c = no_more c.args.self (omega arith)
 
-pub loop-self-preserved : goal.loop-self-preserved
-loop-self-preserved c = at_next c.args.spot c.args.self c.loop-self.here c.loop-self.self c.in-Some.next c.next-in-loop-self.new.self c.loop-self.invariant (omega arith) c.in-Some.ensures.steps
+pub returns-then-spot-others : goal.returns-then-spot-others
+returns-then-spot-others c =
+    stopped c.args.spot c.args.self c.loop-here.here c.in_ok-first.first c.next.new.self c.loop-here.invariant c.in_ok-first.ensures.steps (omega arith)
+
+pub loop-here-preserved : goal.loop-here-preserved
+loop-here-preserved c =
+    let passes = c.in_ok-first.ensures.steps in
+    let left = passes.left in
+    at_next c.args.spot c.args.self c.loop-here.here c.in_ok-first.first c.next.new.self c.loop-here.invariant passes (omega arith) (omega arith)
 
 pub returns : goal.returns
-returns c = stopped c.args.spot c.args.self c.loop-self.here c.loop-self.self c.loop-self.invariant (omega arith)
+returns c =
+    let some = c.loop-here.invariant.some in
+    at_the_last c.args.spot c.args.self c.loop-here.here c.first.result c.loop-here.invariant c.first.ensures.bytes (c.first.ensures.one (omega arith))

@@ -1,8 +1,8 @@
 use Rattle.reply.proofs.Arounds.{Searching}
 use Rattle.reply.proofs.view.Items.around.Given as goal
 
-abbrev pub invariant-loop-self : goal.invariant-loop-self
-invariant-loop-self l = Searching l.spot l.fn.self l.here l.self
+abbrev pub invariant-loop-here : goal.invariant-loop-here
+invariant-loop-here l = Searching l.spot l.self l.here
 
-abbrev pub decreases-loop-self : goal.decreases-loop-self
-decreases-loop-self l = l.self.left
+abbrev pub decreases-loop-here : goal.decreases-loop-here
+decreases-loop-here l = l.here.left
