@@ -55,8 +55,9 @@ pub fn whole_number(reply: Reply<'_>, bounds: Bounds) -> Result<i128, Fault>
         }
         Case::SimpleString => text_integer(reply, text_of(inner), bounds),
         Case::BulkString => {
-            check_utf8(reply, text_of(inner))?;
-            text_integer(reply, text_of(inner), bounds)
+            let text = text_of(inner);
+            check_utf8(reply, text)?;
+            text_integer(reply, text, bounds)
         }
         Case::Double => double_integer(reply, text_of(inner), bounds),
         _ => Err(refuse(ElementReason::Kind, reply)),
@@ -95,8 +96,9 @@ pub fn float_number(reply: Reply<'_>) -> Result<f64, Fault>
         Case::Int => integer_float(inner.integer()).ok_or(refuse(ElementReason::Range, reply)),
         Case::SimpleString => text_float(reply, text_of(inner)),
         Case::BulkString => {
-            check_utf8(reply, text_of(inner))?;
-            text_float(reply, text_of(inner))
+            let text = text_of(inner);
+            check_utf8(reply, text)?;
+            text_float(reply, text)
         }
         Case::Double => double_float(reply, text_of(inner)),
         _ => Err(refuse(ElementReason::Kind, reply)),

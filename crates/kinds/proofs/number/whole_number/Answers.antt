@@ -14,5 +14,5 @@ returns-in_err-check_utf8-in-BulkString c =
     let n = node_of c.unwrapped-inner.result in
     let w = err_from_is_err_and c.from_residual.result c.from_residual.ensures.1 in
     w.1 ∙ ap Err w.2
-    ∙ bulk_refused p n (unwrapped (node_of c.args.reply)) c.text_of-in-BulkString.result.now c.in_err-check_utf8-in-BulkString.field-0.0 (λ n. integer_by p c.args.bounds (integer_in n) (text_in n)) (text_integer p c.args.bounds (text_in n))
-    c.in-BulkString.ensures c.text_of-in-BulkString.ensures (sym c.check_utf8.ensures ∙ c.in_err-check_utf8-in-BulkString.was) c.unwrapped-inner.ensures.tree refl
+    ∙ bulk_refused p n (unwrapped (node_of c.args.reply)) c.text_of-text.result.now c.in_err-check_utf8-in-BulkString.field-0.0 (λ n. integer_by p c.args.bounds (integer_in n) (text_in n)) (text_integer p c.args.bounds (text_in n))
+    c.in-BulkString.ensures c.text_of-text.ensures (sym c.check_utf8.ensures ∙ c.in_err-check_utf8-in-BulkString.was) c.unwrapped-inner.ensures.tree refl
