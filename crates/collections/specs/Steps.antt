@@ -19,10 +19,17 @@ Steps before (Some (Err f)) after = before ≡ Err f
 
 -- how much is left: no fewer than the rows
 abbrev pub size : Cursor → ℕ
-size (Each rest) = rest.left
+size (Each d) = d.rest.left
 size (Cut c) = c.rest.left
 size (Bytes text) = length text.now
 size (Distinct d) = d.rest.left
+
+-- the same replies, but that each class of equal ones is a row
+abbrev pub by_classes : Cursor → Cursor
+by_classes (Each d) = Distinct d
+by_classes (Cut c) = Distinct (record { all = c.all; rest = c.rest })
+by_classes (Bytes text) = Bytes text
+by_classes (Distinct d) = Distinct d
 
 -- after a row less is left
 abbrev pub Falls : {V : Type 0} → ℕ → Option (Result V Fault) → ℕ → Type 0
@@ -35,11 +42,11 @@ abbrev pub calls : Option Cursor → ℕ
 calls None = 0
 calls (Some cursor) = suc (size cursor)
 
--- one call: a row before what is left now, or a refusal, after which nothing comes
+-- one call: a row before what is left now, or a refusal or the end, after which nothing comes
 abbrev pub Moves : {V : Type 0} → (Cursor → Result (List V) Fault) → Option Cursor → Option (Result V Fault) → Option Cursor → Type 0
 Moves left None None after = after ≡ None
 Moves left None (Some r) after = ⊥
-Moves left (Some before) None after = (left before ≡ Ok []) × (after ≡ Some before)
+Moves left (Some before) None after = (left before ≡ Ok []) × (after ≡ None)
 Moves left (Some before) (Some (Ok v)) None = ⊥
 Moves left (Some before) (Some (Ok v)) (Some after) = (left before ≡ onto v (left after)) × (size after < size before)
 Moves left (Some before) (Some (Err f)) after = (left before ≡ Err f) × (after ≡ None)

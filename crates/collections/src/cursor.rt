@@ -1,17 +1,18 @@
 ghost use Rattle.std.specs.Prelude.{◌≡◌};
-ghost use Rattle.collections.specs.declared.cursor.Cursor.TheVariants.{Distinct};
-ghost use Rattle.collections.specs.Steps.{size};
+ghost use Rattle.collections.specs.declared.cursor.Cursor.TheVariants.{Distinct, Each};
+ghost use Rattle.collections.specs.Steps.{by_classes, size};
 
 use reply::{Items, Spot};
 
-/// What is left of replies that are cut, several to a row; the first of the whole list begins at a place.
+/// All replies, and what is left of those that are cut, several to a row; the first of the whole list begins at a place.
 #[derive(Clone, Copy)]
 pub struct Cuts<'a> {
     pub first: Spot,
+    pub all: Items<'a>,
     pub rest: Items<'a>,
 }
 
-/// What is left of all replies, where each class of equal ones is one row.
+/// All replies, and what is left of them.
 #[derive(Clone, Copy)]
 pub struct Classes<'a> {
     pub all: Items<'a>,
@@ -23,7 +24,7 @@ pub struct Classes<'a> {
 #[derive(Clone, Copy)]
 pub enum Cursor<'a> {
     /// Each reply is a row.
-    Each(Items<'a>),
+    Each(Classes<'a>),
     /// Each cut is a row.
     Cut(Cuts<'a>),
     /// Each byte is a row.
@@ -33,6 +34,13 @@ pub enum Cursor<'a> {
 }
 
 impl<'a> Cursor<'a> {
+    /// The cursor before the first of some replies, each of them a row.
+    pub(crate) fn each(all: Items<'a>) -> Cursor<'a>
+        ensures { result ≡ Each (record { all = all.entry; rest = all.entry }) }
+    {
+        Cursor::Each(Classes { all, rest: all })
+    }
+
     /// The cursor before the first of some distinct replies.
     pub(crate) fn distinct(all: Items<'a>) -> Cursor<'a>
         ensures { result ≡ Distinct (record { all = all.entry; rest = all.entry }) }
@@ -40,12 +48,29 @@ impl<'a> Cursor<'a> {
         Cursor::Distinct(Classes { all, rest: all })
     }
 
+    /// The same replies, but that each class of equal ones is a row.
+    pub(crate) fn by_classes(self) -> Cursor<'a>
+        ensures { result ≡ by_classes self.entry }
+    {
+        match self {
+            Cursor::Each(replies) => Cursor::Distinct(replies),
+            Cursor::Cut(
+                Cuts {
+                    first: _,
+                    all,
+                    rest,
+                },
+            ) => Cursor::Distinct(Classes { all, rest }),
+            Cursor::Bytes(_) | Cursor::Distinct(_) => self,
+        }
+    }
+
     /// How many rows are left at most.
     pub(crate) fn size(self) -> usize
         ensures { result ≡ size self.entry }
     {
         match self {
-            Cursor::Each(rest) => rest.len(),
+            Cursor::Each(replies) => replies.rest.len(),
             Cursor::Cut(cuts) => cuts.rest.len(),
             Cursor::Bytes(text) => text.len(),
             Cursor::Distinct(classes) => classes.rest.len(),

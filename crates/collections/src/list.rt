@@ -25,21 +25,22 @@ impl<K: Rows> Collection for ListOf<K> {
         match reply.case() {
             // kept: asked by a byte, since a kind hands out no function from bytes
             Case::BulkString if self.0.of_byte(0).is_some() => Ok(Cursor::Bytes(text_of(reply))),
-            Case::BulkString => Ok(Cursor::Each(reply.alone())),
+            Case::BulkString => Ok(Cursor::each(reply.alone())),
             Case::Array | Case::Set if self.0.is_flat(items) => {
                 Ok(Cursor::Cut(Cuts {
                     first: first_spot(items),
+                    all: items,
                     rest: items,
                 }))
             }
-            Case::Array | Case::Set | Case::Map | Case::Nil => Ok(Cursor::Each(items)),
+            Case::Array | Case::Set | Case::Map | Case::Nil => Ok(Cursor::each(items)),
             _ => Err(refuse(ElementReason::Kind, reply)),
         }
     }
 
     fn advance(&self, cursor: &mut Cursor<'_>) -> Option<Result<K::Value, Fault>> {
         match cursor {
-            Cursor::Each(rest) => next_each(&self.0, rest),
+            Cursor::Each(replies) => next_each(&self.0, &mut replies.rest),
             Cursor::Cut(cuts) => next_cut(&self.0, cuts),
             Cursor::Bytes(text) => {
                 let (byte, others) = text.split_first()?;
@@ -47,7 +48,7 @@ impl<K: Rows> Collection for ListOf<K> {
                 *text = others;
                 Some(Ok(value))
             }
-            Cursor::Distinct(_) => None,
+            Cursor::Distinct(classes) => next_each(&self.0, &mut classes.rest),
         }
     }
 }

@@ -42,6 +42,7 @@ impl<K: Same, V: FromRedisValue> Collection for MapOf<K, V> {
     }
 
     fn advance(&self, cursor: &mut Cursor<'_>) -> Option<Result<(K::Value, V::Value), Fault>> {
+        *cursor = cursor.by_classes();
         match cursor {
             Cursor::Distinct(classes) => self.next_key(classes),
             _ => None,

@@ -34,6 +34,7 @@ impl<K: Same> Collection for SetOf<K> {
     }
 
     fn advance(&self, cursor: &mut Cursor<'_>) -> Option<Result<K::Value, Fault>> {
+        *cursor = cursor.by_classes();
         match cursor {
             Cursor::Distinct(classes) => next_first(&self.0, classes),
             _ => None,

@@ -9,7 +9,7 @@ use crate::cursor::Cursor;
 use kinds::{Fault, IntakeReason};
 use reply::Reply;
 
-/// The rows that are left at a cursor, up to a refusal.
+/// The rows that are left at a cursor, up to a refusal; no cursor once all have come.
 #[derive(Drop)]
 struct Left<'a, C> {
     shape: &'a C,
@@ -24,10 +24,11 @@ impl<'a, C: Collection> Iterator for Left<'a, C> {
     ghost remaining = { λ left. at_most (calls left.cursor) };
 
     fn next(&mut self) -> Option<Result<C::Row, Fault>> {
-        let mut cursor = self.cursor?;
-        let row = self.shape.advance(&mut cursor)?;
-        self.cursor = if row.is_ok() { Some(cursor) } else { None };
-        Some(row)
+        let row = self.shape.advance(self.cursor.as_mut()?);
+        if !matches!(row, Some(Ok(_))) {
+            self.cursor = None;
+        }
+        row
     }
 }
 
