@@ -51,6 +51,6 @@ bytes_left None s = Ok []
 
 abbrev pub list_left : {V : Type 0} → (Node → Result V Fault) → ℕ → (Spot → List Node → Result V Fault) → Option (ℕ → V) → Cursor → Result (List V) Fault
 list_left one more joined bytewise (Each d) = many_by one (nodes_of d.rest)
-list_left one more joined bytewise (Cut c) = many_by (joined c.first) (cuts more (nodes_of c.rest))
+list_left one more joined bytewise (Cut c) = many_by (joined c.first) (cuts more (nodes_of c.replies.rest))
 list_left one more joined bytewise (Bytes text) = bytes_left bytewise text.now
 list_left one more joined bytewise (Distinct d) = many_by one (nodes_of d.rest)

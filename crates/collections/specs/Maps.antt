@@ -14,7 +14,6 @@ use Rattle.kinds.specs.Rows.{and_then, many_by}
 use Rattle.kinds.specs.Texts.{case_at}
 use Rattle.collections.specs.declared.cursor.Cursor.{Cursor}
 use Rattle.collections.specs.declared.cursor.Cursor.TheVariants.{Each, Cut, Bytes, Distinct}
-use Rattle.collections.specs.Steps.{by_classes}
 
 -- each key with its value; a last key without one is left out
 abbrev pub entries : List Node → List (Node × Node)
@@ -80,13 +79,9 @@ map_rows key value alike n = map_by (spot_of n) (flat_of (unwrapped n)) (map_of 
 abbrev pub map_items : Node → Result (List Node) Fault
 map_items n = map_by (spot_of n) (flat_of (unwrapped n)) (Ok (flat_of (unwrapped n))) (case_at (unwrapped n))
 
--- what is left of it at a cursor by classes
-abbrev pub merged_left : {A B : Type 0} → (Node → Result A Fault) → (Node → Result B Fault) → (Node → Node → Bool) → Cursor → Result (List (A × B)) Fault
-merged_left key value alike (Distinct d) = many_by (entry_one key value) (merged_in alike (nodes_of d.all) (nodes_of d.rest))
-merged_left key value alike (Each d) = Ok []
-merged_left key value alike (Cut c) = Ok []
-merged_left key value alike (Bytes text) = Ok []
-
 -- what is left of it at a cursor; a map has no bytes
 abbrev pub map_left : {A B : Type 0} → (Node → Result A Fault) → (Node → Result B Fault) → (Node → Node → Bool) → Cursor → Result (List (A × B)) Fault
-map_left key value alike c = merged_left key value alike (by_classes c)
+map_left key value alike (Each d) = many_by (entry_one key value) (merged_in alike (nodes_of d.all) (nodes_of d.rest))
+map_left key value alike (Cut c) = many_by (entry_one key value) (merged_in alike (nodes_of c.replies.all) (nodes_of c.replies.rest))
+map_left key value alike (Bytes text) = Ok []
+map_left key value alike (Distinct d) = many_by (entry_one key value) (merged_in alike (nodes_of d.all) (nodes_of d.rest))

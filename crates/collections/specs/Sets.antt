@@ -13,7 +13,6 @@ use Rattle.kinds.specs.Rows.{and_then, many_by}
 use Rattle.kinds.specs.Texts.{case_at}
 use Rattle.collections.specs.declared.cursor.Cursor.{Cursor}
 use Rattle.collections.specs.declared.cursor.Cursor.TheVariants.{Each, Cut, Bytes, Distinct}
-use Rattle.collections.specs.Steps.{by_classes}
 
 -- one of some replies is like n
 abbrev pub seen_in : (Node → Node → Bool) → Node → List Node → Bool
@@ -53,13 +52,9 @@ set_by p r case.ServerError = Err (refused Kind p)
 abbrev pub set_rows : {V : Type 0} → (Node → Result V Fault) → (Node → Node → Bool) → Node → Result (List V) Fault
 set_rows one alike n = set_by (spot_of n) (set_of one alike (parts_of (unwrapped n))) (case_at (unwrapped n))
 
--- what is left of it at a cursor by classes
-abbrev pub firsts_left : {V : Type 0} → (Node → Result V Fault) → (Node → Node → Bool) → Cursor → Result (List V) Fault
-firsts_left one alike (Distinct d) = many_by one (firsts_in alike (nodes_of d.all) (nodes_of d.rest))
-firsts_left one alike (Each d) = Ok []
-firsts_left one alike (Cut c) = Ok []
-firsts_left one alike (Bytes text) = Ok []
-
 -- what is left of it at a cursor; a set has no bytes
 abbrev pub set_left : {V : Type 0} → (Node → Result V Fault) → (Node → Node → Bool) → Cursor → Result (List V) Fault
-set_left one alike c = firsts_left one alike (by_classes c)
+set_left one alike (Each d) = many_by one (firsts_in alike (nodes_of d.all) (nodes_of d.rest))
+set_left one alike (Cut c) = many_by one (firsts_in alike (nodes_of c.replies.all) (nodes_of c.replies.rest))
+set_left one alike (Bytes text) = Ok []
+set_left one alike (Distinct d) = many_by one (firsts_in alike (nodes_of d.all) (nodes_of d.rest))

@@ -20,16 +20,9 @@ Steps before (Some (Err f)) after = before ≡ Err f
 -- how much is left: no fewer than the rows
 abbrev pub size : Cursor → ℕ
 size (Each d) = d.rest.left
-size (Cut c) = c.rest.left
+size (Cut c) = c.replies.rest.left
 size (Bytes text) = length text.now
 size (Distinct d) = d.rest.left
-
--- the same replies, but that each class of equal ones is a row
-abbrev pub by_classes : Cursor → Cursor
-by_classes (Each d) = Distinct d
-by_classes (Cut c) = Distinct (record { all = c.all; rest = c.rest })
-by_classes (Bytes text) = Bytes text
-by_classes (Distinct d) = Distinct d
 
 -- after a row less is left
 abbrev pub Falls : {V : Type 0} → ℕ → Option (Result V Fault) → ℕ → Type 0

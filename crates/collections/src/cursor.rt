@@ -1,15 +1,14 @@
 ghost use Rattle.std.specs.Prelude.{◌≡◌};
 ghost use Rattle.collections.specs.declared.cursor.Cursor.TheVariants.{Distinct, Each};
-ghost use Rattle.collections.specs.Steps.{by_classes, size};
+ghost use Rattle.collections.specs.Steps.{size};
 
 use reply::{Items, Spot};
 
-/// All replies, and what is left of those that are cut, several to a row; the first of the whole list begins at a place.
+/// Replies that are cut, several to a row, of which the first begins at a place.
 #[derive(Clone, Copy)]
 pub struct Cuts<'a> {
     pub first: Spot,
-    pub all: Items<'a>,
-    pub rest: Items<'a>,
+    pub replies: Classes<'a>,
 }
 
 /// All replies, and what is left of them.
@@ -48,30 +47,13 @@ impl<'a> Cursor<'a> {
         Cursor::Distinct(Classes { all, rest: all })
     }
 
-    /// The same replies, but that each class of equal ones is a row.
-    pub(crate) fn by_classes(self) -> Cursor<'a>
-        ensures { result ≡ by_classes self.entry }
-    {
-        match self {
-            Cursor::Each(replies) => Cursor::Distinct(replies),
-            Cursor::Cut(
-                Cuts {
-                    first: _,
-                    all,
-                    rest,
-                },
-            ) => Cursor::Distinct(Classes { all, rest }),
-            Cursor::Bytes(_) | Cursor::Distinct(_) => self,
-        }
-    }
-
     /// How many rows are left at most.
     pub(crate) fn size(self) -> usize
         ensures { result ≡ size self.entry }
     {
         match self {
             Cursor::Each(replies) => replies.rest.len(),
-            Cursor::Cut(cuts) => cuts.rest.len(),
+            Cursor::Cut(cuts) => cuts.replies.rest.len(),
             Cursor::Bytes(text) => text.len(),
             Cursor::Distinct(classes) => classes.rest.len(),
         }

@@ -1,7 +1,7 @@
 ghost use Rattle.collections.specs.Lists.{list_left, list_rows, listed_one};
 
 use crate::collection::Collection;
-use crate::cursor::{Cursor, Cuts};
+use crate::cursor::{Classes, Cursor, Cuts};
 use crate::inside::read_listed;
 use crate::list_steps::{first_spot, next_cut, next_each};
 use crate::listed::Listed;
@@ -29,8 +29,10 @@ impl<K: Rows> Collection for ListOf<K> {
             Case::Array | Case::Set if self.0.is_flat(items) => {
                 Ok(Cursor::Cut(Cuts {
                     first: first_spot(items),
-                    all: items,
-                    rest: items,
+                    replies: Classes {
+                        all: items,
+                        rest: items,
+                    },
                 }))
             }
             Case::Array | Case::Set | Case::Map | Case::Nil => Ok(Cursor::each(items)),

@@ -22,15 +22,15 @@ pub(crate) fn next_each<K: FromRedisValue>(
 
 /// The next cut as a row.
 pub(crate) fn next_cut<K: Rows>(kind: &K, left: &mut Cuts<'_>) -> Option<Result<K::Value, Fault>>
-    ensures step { Steps (many_by (K.Rows.joined kind.now left.old.first) (cuts (K.Rows.more kind.now) (nodes_of left.old.rest))) result (many_by (K.Rows.joined kind.now left.new.first) (cuts (K.Rows.more kind.now) (nodes_of left.new.rest))) }
-    ensures falls { Falls left.old.rest.left result left.new.rest.left }
+    ensures step { Steps (many_by (K.Rows.joined kind.now left.old.first) (cuts (K.Rows.more kind.now) (nodes_of left.old.replies.rest))) result (many_by (K.Rows.joined kind.now left.new.first) (cuts (K.Rows.more kind.now) (nodes_of left.new.replies.rest))) }
+    ensures falls { Falls left.old.replies.rest.left result left.new.replies.rest.left }
 {
-    if left.rest.len() == 0 {
+    if left.replies.rest.len() == 0 {
         return None;
     }
-    let row = kind.join(left.first, &mut left.rest);
+    let row = kind.join(left.first, &mut left.replies.rest);
     // asked, so that what `falls` says of the count is known
-    let _left = left.rest.len();
+    let _left = left.replies.rest.len();
     Some(row)
 }
 

@@ -42,10 +42,11 @@ impl<K: Same, V: FromRedisValue> Collection for MapOf<K, V> {
     }
 
     fn advance(&self, cursor: &mut Cursor<'_>) -> Option<Result<(K::Value, V::Value), Fault>> {
-        *cursor = cursor.by_classes();
         match cursor {
-            Cursor::Distinct(classes) => self.next_key(classes),
-            _ => None,
+            Cursor::Each(replies) => self.next_key(replies),
+            Cursor::Cut(cuts) => self.next_key(&mut cuts.replies),
+            Cursor::Bytes(_) => None,
+            Cursor::Distinct(replies) => self.next_key(replies),
         }
     }
 }

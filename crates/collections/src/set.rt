@@ -34,10 +34,11 @@ impl<K: Same> Collection for SetOf<K> {
     }
 
     fn advance(&self, cursor: &mut Cursor<'_>) -> Option<Result<K::Value, Fault>> {
-        *cursor = cursor.by_classes();
         match cursor {
-            Cursor::Distinct(classes) => next_first(&self.0, classes),
-            _ => None,
+            Cursor::Each(replies) => next_first(&self.0, replies),
+            Cursor::Cut(cuts) => next_first(&self.0, &mut cuts.replies),
+            Cursor::Bytes(_) => None,
+            Cursor::Distinct(replies) => next_first(&self.0, replies),
         }
     }
 }

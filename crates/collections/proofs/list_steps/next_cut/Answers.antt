@@ -5,7 +5,7 @@ use Rattle.collections.proofs.list_steps.next_cut.Goals as goal
 
 pub returns : goal.returns
 returns g c =
-    let ns = nodes_of c.args.left.now.rest in
+    let ns = nodes_of c.args.left.now.replies.rest in
     let ms = nodes_of c.join-row.new.items in
     let m = g.K.Rows.more c.args.kind.now in
     let h : 0 < length ns = omega (arith, c.len.ensures.count) in
